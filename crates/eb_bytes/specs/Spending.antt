@@ -1,0 +1,7 @@
+-- A budget of steps.
+use Rattle.std.specs.Prelude.{ℕ}
+
+-- how many steps may be used, and how many were
+pub record Spending : Type 0 where
+  pub limit : ℕ
+  pub used : ℕ
