@@ -1,0 +1,8 @@
+use Rattle.std.specs.Prelude.{All, Contains}
+use Rattle.md5_cache.specs.Record.{HasOneMd5}
+use Rattle.md5_cache.proofs.record.map_of.Given as goal
+
+-- the map holds the eclasses so far and no others
+abbrev pub invariant-loop-name : goal.invariant-loop-name
+invariant-loop-name l =
+    All (Contains l.yielded) l.map.entries × (HasOneMd5 l.yielded → All (Contains l.map.entries) l.yielded)

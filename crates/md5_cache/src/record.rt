@@ -1,0 +1,81 @@
+ghost use Rattle.std.specs.Prelude.{◌≡◌, ◌↔◌, All, Contains, IfOk, IsTrue};
+ghost use Rattle.std.specs.List.{AllPass};
+ghost use Rattle.md5_cache.specs.Record.{AreByName, HasOneMd5, IsEclassName, IsRecordOf, begins_name, is_name_byte, is_name_start};
+
+use eb_bytes::{Bytes, Memory};
+use eb_digest::Digest;
+use std::alloc::Global;
+use std::collections::BTreeMap;
+
+fn is_name_start(byte: u8) -> bool
+    ensures { result ≡ is_name_start byte }
+{
+    matches!(byte, b'A'..=b'Z' | b'a'..=b'z' | b'_')
+}
+
+fn is_name_byte(byte: u8) -> bool
+    ensures { result ≡ is_name_byte byte }
+{
+    is_name_start(byte) || matches!(byte, b'0'..=b'9' | b'.' | b'-')
+}
+
+fn begins_name(text: &[u8]) -> bool
+    ensures { result ≡ begins_name text.now }
+{
+    match text.first() {
+        Some(byte) => is_name_start(*byte),
+        None => false,
+    }
+}
+
+fn are_name_bytes(text: &[u8]) -> bool
+    ensures { IsTrue result ↔ AllPass is_name_byte text.now }
+{
+    text.iter().all(|byte| is_name_byte(*byte))
+}
+
+/// Whether a text has the form of an eclass's name (Package Manager Specification, "Eclass names"): ASCII letters,
+/// digits, `_`, `.` and `-`, a letter or `_` first, and not `default`.
+pub fn is_eclass_name(text: &[u8]) -> bool
+    ensures { IsTrue result ↔ IsEclassName text.now }
+{
+    are_name_bytes(text) && begins_name(text) && text != b"default".as_slice()
+}
+
+// The eclasses as a map from their names.
+fn map_of(alloc: Global, eclasses: Vec<(Bytes, Digest)>) -> Result<BTreeMap<Bytes, Digest>, Memory>
+    requires { HasOneMd5 eclasses.items }
+    ensures only_read { IfOk result (λ map. All (Contains eclasses.items) map.entries) }
+    ensures all_read { IfOk result (λ map. All (Contains map.entries) eclasses.items) }
+{
+    let mut map = BTreeMap::new(alloc);
+    for (name, md5) in eclasses {
+        map.insert(name, md5)?;
+    }
+    Ok(map)
+}
+
+fn entries_of(alloc: Global, map: BTreeMap<Bytes, Digest>) -> Result<Vec<(Bytes, Digest)>, Memory>
+    ensures items { IfOk result (λ list. list.items ≡ map.entries) }
+    ensures by_name { IfOk result (λ list. AreByName list.items) }
+{
+    let mut list = Vec::new(alloc);
+    for (name, md5) in map {
+        list.push((name, md5))?;
+    }
+    Ok(list)
+}
+
+/// The eclasses that were read, each once, by name. One name has one MD5.
+///
+/// # Errors
+/// `Memory` where there is no room for them.
+pub fn record_of(
+    alloc: Global,
+    eclasses: Vec<(Bytes, Digest)>,
+) -> Result<Vec<(Bytes, Digest)>, Memory>
+    requires { HasOneMd5 eclasses.items }
+    ensures { IfOk result (λ list. IsRecordOf eclasses.items list.items) }
+{
+    entries_of(alloc, map_of(alloc, eclasses)?)
+}
