@@ -1,0 +1,200 @@
+-- The values of plain assignments hold no byte 0, and that of EAPI is one digit.
+use Rattle.std.proofs.Common.{◌≡◌, ◌≢◌, ℕ, zero, suc, ◌+◌, ◌-◌, ◌<◌, ◌≤◌, Bool, true, false, ◌&&◌, ◌==◌, nat_le, cond, List, [], ◌∷◌, take, Option, Some, None, IsSome, codes, unwrap_or, refl, sym, subst, arith}
+use Rattle.std.specs.List.{AllByRecursion, list_all, list_any, prefix_len, take_while}
+use Rattle.std.proofs.lemmas.Bool.{leb-true}
+use Rattle.std.proofs.lemmas.Option.{cond_some}
+use Rattle.std.proofs.lemmas.List.Elements.{All-cons}
+use Rattle.eb_bytes.specs.Text.{Text, is_blank, norm}
+use Rattle.md5_cache.specs.Entry.{HasNoZero, named_eapi}
+use Rattle.md5_cache.specs.declared.key.Key.{Key}
+use Rattle.md5_cache.specs.declared.key.Key.TheVariants as key
+use Rattle.md5_cache.specs.Key.{key_name}
+use Rattle.egencache.specs.Assignments.{Assigned, assignments_of, bad_line_from, is_eapi, is_plain_assignment, is_plain_line, is_text, later_or, still_first, text_of, value_if, variable, with_line}
+use Rattle.egencache.specs.Meaning.{HasZeroFreeValue, IsEapi, ebuild_eapi, final_value, has_implicit_rdepend, rdepend_of}
+use Rattle.egencache.specs.Plain.{PlainLine, Nothing, Assigns, Other, after_while, assigned_line, bare_value, before_blanks, closed_value, is_bare, is_name, is_name_byte, is_quotable, is_zero, line_from, plain_line, spelled_value, with_value}
+use Rattle.egencache.proofs.Conditions.{both_true, none_chosen}
+
+-- ---- byte 0
+
+pub HasNoZero-nil : HasNoZero []
+HasNoZero-nil = λ k d below. absurd (let none : k < 0 = below in omega arith)
+
+pub HasNoZero-cons : (b : ℕ) (t : Text) → b ≢ 0 → HasNoZero t → HasNoZero (b ∷ t)
+HasNoZero-cons b t apart rest = All-cons (λ (b : ℕ). b ≢ 0) b t apart rest
+
+-- a run of bytes among which 0 is not
+pub HasNoZero-take_while : (p : ℕ → Bool) → p 0 ≡ false → (t : Text) → HasNoZero (take_while p t)
+HasNoZero-take_while p outside [] = HasNoZero-nil
+HasNoZero-take_while p outside (b ∷ t) = on (p b) refl (HasNoZero-take_while p outside t)
+  where
+    on : (v : Bool) → p b ≡ v → HasNoZero (take_while p t) → HasNoZero (take_while p (b ∷ t))
+    on true e rest =
+        let longer : take (1 + prefix_len p t) (b ∷ t) ≡ b ∷ take (prefix_len p t) t = grind arith in
+        let apart : b ≢ 0 = λ z. (cc) in
+        let P : Text → Type 0 = λ t. HasNoZero t in
+        rw e (subst P (sym longer) (HasNoZero-cons b (take (prefix_len p t) t) apart rest))
+    on false e rest = rw e HasNoZero-nil
+
+before_blanks-some : (value rest v : Text) → before_blanks value rest ≡ Some v → value ≡ v
+before_blanks-some value rest v h = (cond_some (list_all is_blank rest) value v h).1
+
+closed_value-some : (value rest v : Text) → closed_value value rest ≡ Some v → value ≡ v
+closed_value-some value [] v h = cc
+closed_value-some value (b ∷ rest) v h = on (b == 34) h
+  where
+    on : (w : Bool) → cond w (before_blanks value rest) None ≡ Some v → value ≡ v
+    on true h = before_blanks-some value rest v h
+    on false h = cc
+
+pub HasNoZero-spelled : (t v : Text) → spelled_value t ≡ Some v → HasNoZero v
+HasNoZero-spelled [] v h = let e : [] ≡ v = cc in let P : Text → Type 0 = λ t. HasNoZero t in subst P e HasNoZero-nil
+HasNoZero-spelled (b ∷ t) v h = on (b == 34) h
+  where
+    on : (w : Bool) → cond w (closed_value (take_while is_quotable t) (after_while is_quotable t)) (bare_value (b ∷ t)) ≡ Some v → HasNoZero v
+    on true h = let P : Text → Type 0 = λ t. HasNoZero t in subst P (closed_value-some (take_while is_quotable t) (after_while is_quotable t) v h) (HasNoZero-take_while is_quotable refl t)
+    on false h = let P : Text → Type 0 = λ t. HasNoZero t in subst P (before_blanks-some (take_while is_bare (b ∷ t)) (after_while is_bare (b ∷ t)) v h) (HasNoZero-take_while is_bare refl (b ∷ t))
+
+-- a line whose value, if it assigns one, holds no byte 0
+abbrev pub HasFreeValue : PlainLine → Type 0
+HasFreeValue Nothing = Unit {0}
+HasFreeValue (Assigns name value) = HasNoZero value
+HasFreeValue Other = Unit {0}
+
+either_line : (w : Bool) (x y : PlainLine) → HasFreeValue x → HasFreeValue y → HasFreeValue (cond w x y)
+either_line true x y a b = a
+either_line false x y a b = b
+
+with_value-free : (name : Text) (o : Option Text) → ((v : Text) → o ≡ Some v → HasNoZero v) → HasFreeValue (with_value name o)
+with_value-free name None h = tt
+with_value-free name (Some v) h = h v refl
+
+assigned_line-free : (name rest : Text) → HasFreeValue (assigned_line name rest)
+assigned_line-free name [] = tt
+assigned_line-free name (b ∷ spelled) = either_line (b == 61 && is_name name) (with_value name (spelled_value spelled)) Other (with_value-free name (spelled_value spelled) (HasNoZero-spelled spelled)) (tt {0})
+
+line_from-free : (t : Text) → HasFreeValue (line_from t)
+line_from-free [] = tt
+line_from-free (b ∷ t) =
+    either_line (b == 35) (cond (list_any is_zero t) Other Nothing) (assigned_line (take_while is_name_byte (b ∷ t)) (after_while is_name_byte (b ∷ t))) (either_line (list_any is_zero t) Other Nothing (tt {0}) (tt {0})) (assigned_line-free (take_while is_name_byte (b ∷ t)) (after_while is_name_byte (b ∷ t)))
+
+with_line-free : (line : PlainLine) (rest : List Assigned) → HasFreeValue line → AllByRecursion HasZeroFreeValue rest → AllByRecursion HasZeroFreeValue (with_line line rest)
+with_line-free Nothing rest one others = others
+with_line-free (Assigns name value) rest one others = (one, others)
+with_line-free Other rest one others = others
+
+pub assignments-free : (lines : List Text) → AllByRecursion HasZeroFreeValue (assignments_of lines)
+assignments-free [] = tt
+assignments-free (line ∷ lines) = with_line-free (plain_line line) (assignments_of lines) (line_from-free (after_while is_blank line)) (assignments-free lines)
+
+-- ---- EAPI
+
+-- a value of EAPI, if there is one, is one digit
+abbrev pub HasEapi : Option Text → Type 0
+HasEapi None = Unit {0}
+HasEapi (Some value) = IsEapi value
+
+later_or-eapi : (o earlier : Option Text) → HasEapi o → HasEapi earlier → HasEapi (later_or o earlier)
+later_or-eapi None earlier a b = b
+later_or-eapi (Some v) earlier a b = a
+
+value_if-eapi : (first : Bool) (name value : Text) → is_plain_assignment first name value ≡ true → HasEapi (value_if (codes "EAPI") (record { name = name; value = value }))
+value_if-eapi first name value plain = on (is_text name (codes "EAPI")) plain
+  where
+    on : (w : Bool) → cond w (first && is_eapi value) true ≡ true → HasEapi (cond w (Some value) None)
+    on true h = (both_true first (is_eapi value) h).1
+    on false h = tt
+
+with_line-eapi : (n : ℕ) (first : Bool) (line : PlainLine) (lines : List Text) → ((n : ℕ) (first : Bool) → bad_line_from n first lines ≡ None → HasEapi (variable (codes "EAPI") (assignments_of lines))) → cond (is_plain_line first line) (bad_line_from (n + 1) (still_first first line) lines) (Some n) ≡ None → HasEapi (variable (codes "EAPI") (with_line line (assignments_of lines)))
+with_line-eapi n first Nothing lines rest h = rest (n + 1) first h
+with_line-eapi n first (Assigns name value) lines rest h =
+    let both = none_chosen (is_plain_assignment first name value) (bad_line_from (n + 1) false lines) n h in
+    later_or-eapi (variable (codes "EAPI") (assignments_of lines)) (value_if (codes "EAPI") (record { name = name; value = value })) (rest (n + 1) false both.1) (value_if-eapi first name value both.0)
+with_line-eapi n first Other lines rest h = absurd (cc)
+
+pub plain-eapi : (n : ℕ) (first : Bool) (lines : List Text) → bad_line_from n first lines ≡ None → HasEapi (variable (codes "EAPI") (assignments_of lines))
+plain-eapi n first [] h = tt
+plain-eapi n first (line ∷ lines) h = with_line-eapi n first (plain_line line) lines (λ n first. plain-eapi n first lines) h
+
+unwrap_or-eapi : (o : Option Text) → HasEapi o → IsEapi (unwrap_or o (codes "0"))
+unwrap_or-eapi None h = refl
+unwrap_or-eapi (Some value) h = h
+
+pub ebuild_eapi-plain : (n : ℕ) (first : Bool) (lines : List Text) → bad_line_from n first lines ≡ None → IsEapi (ebuild_eapi (assignments_of lines))
+ebuild_eapi-plain n first lines h = unwrap_or-eapi _ (plain-eapi n first lines h)
+
+digit_named : (d : ℕ) → d ≤ 8 → IsSome (named_eapi (norm ((48 + d) ∷ [])))
+digit_named zero h = refl
+digit_named (suc zero) h = refl
+digit_named (suc (suc zero)) h = refl
+digit_named (suc (suc (suc zero))) h = refl
+digit_named (suc (suc (suc (suc zero)))) h = refl
+digit_named (suc (suc (suc (suc (suc zero))))) h = refl
+digit_named (suc (suc (suc (suc (suc (suc zero)))))) h = refl
+digit_named (suc (suc (suc (suc (suc (suc (suc zero))))))) h = refl
+digit_named (suc (suc (suc (suc (suc (suc (suc (suc zero)))))))) h = refl
+digit_named (suc (suc (suc (suc (suc (suc (suc (suc (suc d))))))))) h = absurd (omega arith)
+
+pub named_eapi-plain : (text : Text) → IsEapi text → IsSome (named_eapi (norm text))
+named_eapi-plain [] h = absurd (cc)
+named_eapi-plain (b ∷ []) h =
+    let low : 48 ≤ b = leb-true 48 b (both_true (nat_le 48 b) (nat_le b 56) h).0 in
+    let high : b ≤ 56 = leb-true b 56 (both_true (nat_le 48 b) (nat_le b 56) h).1 in
+    let e : 48 + (b - 48) ≡ b = omega arith in
+    let P : ℕ → Type 0 = λ n. IsSome (named_eapi (norm (n ∷ []))) in
+    subst P e (digit_named (b - 48) (omega arith))
+named_eapi-plain (b ∷ c ∷ bs) h = absurd (cc)
+
+-- ---- the values of the keys
+
+abbrev pub HasFree : Option Text → Type 0
+HasFree None = Unit {0}
+HasFree (Some value) = HasNoZero value
+
+later_or-free : (o earlier : Option Text) → HasFree o → HasFree earlier → HasFree (later_or o earlier)
+later_or-free None earlier a b = b
+later_or-free (Some v) earlier a b = a
+
+value_if-free : (name : Text) (a : Assigned) → HasNoZero a.value → HasFree (value_if name a)
+value_if-free name a h = on (is_text a.name name)
+  where
+    on : (w : Bool) → HasFree (cond w (Some a.value) None)
+    on true = h
+    on false = tt
+
+variable-free : (name : Text) (given : List Assigned) → AllByRecursion HasZeroFreeValue given → HasFree (variable name given)
+variable-free name [] h = tt
+variable-free name (a ∷ given) h = later_or-free (variable name given) (value_if name a) (variable-free name given h.1) (value_if-free name a h.0)
+
+unwrap_or-free : (o : Option Text) (d : Text) → HasFree o → HasNoZero d → HasNoZero (unwrap_or o d)
+unwrap_or-free None d a b = b
+unwrap_or-free (Some v) d a b = a
+
+text_of-free : (name : Text) (given : List Assigned) → AllByRecursion HasZeroFreeValue given → HasNoZero (text_of name given)
+text_of-free name given h = unwrap_or-free (variable name given) [] (variable-free name given h) HasNoZero-nil
+
+either_text : (w : Bool) (x y : Text) → HasNoZero x → HasNoZero y → HasNoZero (cond w x y)
+either_text true x y a b = a
+either_text false x y a b = b
+
+rdepend_of-free : (given : List Assigned) → AllByRecursion HasZeroFreeValue given → HasNoZero (rdepend_of given)
+rdepend_of-free given h = unwrap_or-free (variable (codes "RDEPEND") given) _ (variable-free (codes "RDEPEND") given h) (either_text (has_implicit_rdepend (ebuild_eapi given)) _ _ (text_of-free (codes "DEPEND") given h) HasNoZero-nil)
+
+pub final_value-free : (given : List Assigned) → AllByRecursion HasZeroFreeValue given → (k : Key) → HasNoZero (final_value given k)
+final_value-free given h key.Eapi = unwrap_or-free (variable (codes "EAPI") given) (codes "0") (variable-free (codes "EAPI") given h) (HasNoZero-cons 48 [] (λ z. omega arith) HasNoZero-nil)
+final_value-free given h key.DefinedPhases = HasNoZero-cons 45 [] (λ z. omega arith) HasNoZero-nil
+final_value-free given h key.Inherit = HasNoZero-nil
+final_value-free given h key.Rdepend = rdepend_of-free given h
+final_value-free given h key.Bdepend = text_of-free (key_name key.Bdepend) given h
+final_value-free given h key.Depend = text_of-free (key_name key.Depend) given h
+final_value-free given h key.Description = text_of-free (key_name key.Description) given h
+final_value-free given h key.Homepage = text_of-free (key_name key.Homepage) given h
+final_value-free given h key.Idepend = text_of-free (key_name key.Idepend) given h
+final_value-free given h key.Iuse = text_of-free (key_name key.Iuse) given h
+final_value-free given h key.Keywords = text_of-free (key_name key.Keywords) given h
+final_value-free given h key.License = text_of-free (key_name key.License) given h
+final_value-free given h key.Pdepend = text_of-free (key_name key.Pdepend) given h
+final_value-free given h key.Properties = text_of-free (key_name key.Properties) given h
+final_value-free given h key.RequiredUse = text_of-free (key_name key.RequiredUse) given h
+final_value-free given h key.Restrict = text_of-free (key_name key.Restrict) given h
+final_value-free given h key.Slot = text_of-free (key_name key.Slot) given h
+final_value-free given h key.SrcUri = text_of-free (key_name key.SrcUri) given h

@@ -1,0 +1,13 @@
+use Rattle.std.proofs.Common.{sym}
+use Rattle.eb_files.specs.Paths.{is_slash}
+use Rattle.eb_bytes.proofs.WordRuns.{position_some, position_none}
+use Rattle.egencache.proofs.Cuts.{slice_split-whole, slice_split-cut}
+use Rattle.egencache.proofs.request.split_slash.Goals as goal
+
+pub returns-in-None : goal.returns-in-None
+returns-in-None c = slice_split-whole is_slash c.args.text.now (position_none is_slash c.args.text.now (sym c.in-None.ensures))
+
+pub returns-in-Some : goal.returns-in-Some
+returns-in-Some c =
+    let found = position_some is_slash c.args.text.now c.in-Some.end (sym c.in-Some.ensures) in
+    slice_split-cut is_slash c.args.text.now c.in-Some.end found.0 found.1

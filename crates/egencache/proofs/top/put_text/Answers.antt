@@ -1,0 +1,8 @@
+use Rattle.egencache.proofs.Puts.{PutsPrefix-appended}
+use Rattle.egencache.proofs.top.put_text.Goals as goal
+
+pub returns-in-Err-Failed-clause-puts : goal.returns-in-Err-Failed-clause-puts
+returns-in-Err-Failed-clause-puts g c = λ held told. PutsPrefix-appended c.put.result c.args.text.now held _ (c.put.ensures.means held told)
+
+pub returns-in-Err-Memory-clause-puts : goal.returns-in-Err-Memory-clause-puts
+returns-in-Err-Memory-clause-puts g c = λ held told. PutsPrefix-appended c.put.result c.args.text.now held _ (c.put.ensures.means held told)

@@ -1,0 +1,14 @@
+pub mod Answered
+pub mod Assignments
+pub mod ExitStatus
+pub mod LinesLeft
+pub mod Meaning
+pub mod Placed
+pub mod Plain
+pub mod PlainForm
+pub mod PlainText
+pub mod ReadsAll
+pub mod Report
+pub mod Request
+pub mod Seen
+pub mod Tells

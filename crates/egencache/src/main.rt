@@ -1,0 +1,62 @@
+//! `egencache`: the cache entry of an ebuild, read from a repository and put on standard output.
+#![tactic(auto)]
+
+ghost use Rattle.std.specs.Prelude.{◌≡◌, ◌<◌};
+
+mod assignments;
+mod fault;
+mod host;
+mod line_laws;
+mod lines;
+mod plain;
+mod report;
+mod request;
+mod source;
+mod status;
+#[cfg(test)]
+mod tests;
+mod text_laws;
+mod top;
+
+use crate::host::{HostSink, HostTree};
+use crate::status::Status;
+use crate::top::egencache;
+use eb_bytes::{Bytes, Memory, Steps};
+use std::env;
+use std::io::ErrorKind;
+use std::marker::Brand;
+use std::process::ExitCode;
+use std::sync::ledger::{Blank, Ledger};
+
+// The words behind the program's name. Where one of them is no text there are none, and no words have no form.
+fn command_line(rt: &HostRuntime) -> Result<Vec<Bytes>, Memory> {
+    let mut words = Vec::new(rt.alloc());
+    let arguments = match env::args(rt) {
+        Ok(arguments) => arguments,
+        Err(error) if error.kind() == ErrorKind::InvalidData => return Ok(words),
+        Err(_) => return Err(Memory),
+    };
+    for argument in arguments.skip(1) {
+        words.push(Bytes::from_slice(rt.alloc(), argument.as_bytes())?)?;
+    }
+    Ok(words)
+}
+
+fn answer<L: Ledger>(rt: &HostRuntime, words: &[Bytes], blank: Blank) -> Status
+    requires name { blank.name ≡ L.name }
+    requires parts { blank.parts ≡ L.parts }
+    requires some { 0 < blank.parts }
+{
+    let mut steps = Steps::<L>::new(blank);
+    let mut tree = HostTree::new(rt);
+    let mut out = HostSink::new(rt);
+    egencache(rt.alloc(), words, &mut tree, &mut out, &mut steps)
+}
+
+fn main(rt: HostRuntime) -> ExitCode {
+    let status = match command_line(&rt) {
+        Ok(words) => answer::<Brand>(&rt, words.as_slice(), Blank::new(1)),
+        Err(Memory) => Status::Memory,
+    };
+    ExitCode::from(status.code())
+}
