@@ -1,0 +1,10 @@
+# Copyright 2026 The egencache authors
+
+EAPI="7"
+
+DESCRIPTION="Shows a table of characters, page by page"
+HOMEPAGE="https://lantern.example.org/ https://lantern.example.net/"
+SRC_URI="https://lantern.example.org/lantern-2.tar.xz"
+LICENSE="|| ( MIT BSD )"
+SLOT="0/2"
+KEYWORDS="amd64 ~riscv"

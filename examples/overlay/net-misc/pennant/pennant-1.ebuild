@@ -1,0 +1,2 @@
+DESCRIPTION="Prints the flag of a signal"
+SLOT=0
