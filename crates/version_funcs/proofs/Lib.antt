@@ -1,0 +1,14 @@
+pub mod Chosen
+pub mod Keys
+pub mod LastZeros
+pub mod Marks
+pub mod Maximal
+pub mod Numbers
+pub mod Ordered
+pub mod Reading
+pub mod Replaced
+pub mod Runs
+pub mod Spelled
+pub mod Splits
+pub mod Unambiguous
+pub mod Value

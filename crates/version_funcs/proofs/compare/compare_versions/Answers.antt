@@ -1,0 +1,14 @@
+use Rattle.std.proofs.Common.{◌≡◌, sym, ◌∙◌, subst}
+use Rattle.eb_bytes.specs.Text.{Text}
+use Rattle.version_funcs.specs.Version.{Version, IsWellFormed, spelling}
+use Rattle.version_funcs.proofs.Spelled.{PartsAre, parts_are}
+use Rattle.version_funcs.proofs.Ordered.{parts_order, parts_order-value}
+use Rattle.version_funcs.proofs.compare.compare_versions.Goals as goal
+
+parts_of_spelled : (t : Text) (v : Version) → IsWellFormed v → t ≡ spelling v → PartsAre t v
+parts_of_spelled t v well spelled = let P : Text → Type 0 = λ u. PartsAre u v in subst P (sym spelled) (parts_are v well)
+
+pub returns : goal.returns
+returns c v w well_v well_w spelled_v spelled_w =
+    let compared : c.then-4.result ≡ parts_order c.args.a.now c.args.b.now = simp (c.then-4.ensures, c.then-3.ensures, c.then-2.ensures, c.then.ensures, c.compare_numbers.ensures, c.compare_later.ensures, c.cmp.ensures, c.compare_suffixes.ensures, c.compare_revisions.ensures, c.parts_of-v.ensures.first, c.parts_of-v.ensures.later, c.parts_of-v.ensures.letter, c.parts_of-v.ensures.suffixes, c.parts_of-v.ensures.revision, c.parts_of-w.ensures.first, c.parts_of-w.ensures.later, c.parts_of-w.ensures.letter, c.parts_of-w.ensures.suffixes, c.parts_of-w.ensures.revision) in
+    compared ∙ parts_order-value c.args.a.now c.args.b.now v w well_v well_w (parts_of_spelled c.args.a.now v well_v spelled_v) (parts_of_spelled c.args.b.now w well_w spelled_w)

@@ -1,0 +1,12 @@
+pub mod Byte
+pub mod Compared
+pub mod Laws
+pub mod Maximal
+pub mod Operators
+pub mod Order
+pub mod Pieces
+pub mod Range
+pub mod Read
+pub mod Seen
+pub mod Version
+pub mod Walk
