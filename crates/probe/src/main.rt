@@ -1,0 +1,26 @@
+//! Answers requests to the libraries, one a line, for measurements and comparisons. No part of the product.
+//!
+//! It reads one request a line from standard input and writes one answer a line, to the end of the input. Fields are
+//! separated by blanks. A text is lower-case hexadecimal, `-` where it is empty. A line that is no request answers
+//! `what`.
+#![tactic(auto)]
+
+mod field;
+mod request;
+mod versions;
+
+use crate::request::answer;
+use eb_bytes::Memory;
+use std::alloc::AllocError;
+use std::io;
+
+fn main(rt: HostRuntime) -> io::Result<()> {
+    for line in rt.lines(rt.alloc()) {
+        let line = line?;
+        match answer(rt.alloc(), line.as_str().as_bytes()) {
+            Ok(text) => println!(rt; "{text}")?,
+            Err(Memory) => return Err(AllocError.into()),
+        }
+    }
+    Ok(())
+}

@@ -1,0 +1,27 @@
+use crate::field::{read_texts, what};
+use crate::versions::{cut, rs, test, version};
+use eb_bytes::{Memory, words_of};
+use std::alloc::Global;
+
+/// The answer to a line.
+pub fn answer(alloc: Global, line: &[u8]) -> Result<String, Memory> {
+    let fields = words_of(alloc, line)?;
+    let [name, fields @ ..] = fields.as_slice() else {
+        return what(alloc);
+    };
+    let Some(texts) = read_texts(alloc, fields)? else {
+        return what(alloc);
+    };
+    let (name, texts) = (name.as_slice(), texts.as_slice());
+    if name == b"version".as_slice() {
+        version(alloc, texts)
+    } else if name == b"cut".as_slice() {
+        cut(alloc, texts)
+    } else if name == b"rs".as_slice() {
+        rs(alloc, texts)
+    } else if name == b"test".as_slice() {
+        test(alloc, texts)
+    } else {
+        what(alloc)
+    }
+}
