@@ -61,9 +61,9 @@ fn split_letter(text: &[u8]) -> (Option<u8>, &[u8])
     }
 }
 
-/// Whether the text is a version (Package Manager Specification, "Version Specifications"): digits, then any number of dots with digits behind
-/// them, at most one letter from a to z, any number of `_alpha`, `_beta`, `_pre`, `_rc` and `_p` with or without digits
-/// behind them, and at most one `-r` with digits. Takes no memory.
+/// Whether the text is a version (Package Manager Specification, "Version Specifications"): digits, then any number of
+/// dots with digits behind them, at most one letter from a to z, any number of `_alpha`, `_beta`, `_pre`, `_rc` and `_p`
+/// with or without digits behind them, and at most one `-r` with digits. Takes no memory.
 pub fn read_version(text: &[u8]) -> bool
     ensures { IsTrue result ↔ IsVersionText text.now }
 {

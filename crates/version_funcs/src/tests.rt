@@ -5,7 +5,7 @@ use std::cmp::Ordering;
 use std::cmp::Ordering::{Equal, Greater, Less};
 
 // How versions stand to each other.
-const ORDERS: [(&str, Ordering, &str); 54] = [
+const ORDERS: [(&str, Ordering, &str); 55] = [
     // The first components are numbers.
     ("1", Less, "2"),
     ("9", Less, "10"),
@@ -52,6 +52,7 @@ const ORDERS: [(&str, Ordering, &str); 54] = [
     ("1_pre", Less, "1"),
     ("1_rc", Less, "1"),
     ("1_p", Greater, "1"),
+    ("1_p1", Greater, "1"),
     ("1_alpha", Less, "1_beta"),
     ("1_beta", Less, "1_pre"),
     ("1_pre", Less, "1_rc"),
