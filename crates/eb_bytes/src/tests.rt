@@ -1,6 +1,8 @@
 ghost use Rattle.std.specs.Prelude.{◌≡◌, ◌<◌};
 
-use crate::{Budget, Bytes, Memory, Spent, Steps, decimal, join_words, read_decimal, words_of};
+use crate::{
+    Budget, Bytes, Mark, Marked, Memory, Spent, Steps, decimal, join_words, read_decimal, words_of,
+};
 use std::alloc::Global;
 use std::marker::Brand;
 use std::sync::ledger::{Blank, Ledger};
@@ -97,4 +99,27 @@ fn counted<L: Ledger>(blank: Blank) -> bool
 #[test]
 fn a_budget_is_spent_to_its_limit(rt: HostRuntime) {
     assert!(rt; counted::<Brand>(Blank::new(1)));
+}
+
+#[test]
+fn marks_are_put_in_order(rt: HostRuntime) {
+    let mut marked = Marked::new(rt.alloc());
+    assert!(rt; marked.as_slice().is_empty());
+    for mark in [
+        Mark::Literal(b'a'),
+        Mark::Result(0),
+        Mark::Quoted(255),
+        Mark::Empty,
+        Mark::Break,
+    ] {
+        marked.push(mark).expect(&rt, "memory");
+    }
+    let marks = marked.as_slice();
+    assert_eq!(rt; marks.len(), 5);
+    assert!(rt;
+        marks[0] == Mark::Literal(b'a')
+            && marks[1] == Mark::Result(0)
+            && marks[2] == Mark::Quoted(255)
+    );
+    assert!(rt; marks[3] == Mark::Empty && marks[4] == Mark::Break);
 }
