@@ -6,9 +6,9 @@ use Rattle.std.proofs.lemmas.Option.{cond_some}
 use Rattle.std.proofs.lemmas.List.Elements.{All-cons}
 use Rattle.eb_bytes.specs.Text.{Text, is_blank, norm}
 use Rattle.md5_cache.specs.Entry.{HasNoZero, named_eapi}
-use Rattle.md5_cache.specs.declared.key.Key.{Key}
-use Rattle.md5_cache.specs.declared.key.Key.TheVariants as key
-use Rattle.md5_cache.specs.Key.{key_name}
+use Rattle.eapi_tables.specs.declared.key.Key.{Key}
+use Rattle.eapi_tables.specs.declared.key.Key.TheVariants as key
+use Rattle.eapi_tables.specs.Key.{key_name}
 use Rattle.egencache.specs.Assignments.{Assigned, assignments_of, bad_line_from, is_eapi, is_plain_assignment, is_plain_line, is_text, later_or, still_first, text_of, value_if, variable, with_line}
 use Rattle.egencache.specs.Meaning.{HasZeroFreeValue, IsEapi, ebuild_eapi, final_value, has_implicit_rdepend, rdepend_of}
 use Rattle.egencache.specs.Plain.{PlainLine, Nothing, Assigns, Other, after_while, assigned_line, bare_value, before_blanks, closed_value, is_bare, is_name, is_name_byte, is_quotable, is_zero, line_from, plain_line, spelled_value, with_value}

@@ -2,10 +2,10 @@
 use Rattle.std.specs.Prelude.{◌≡◌, true, ℕ, ◌+◌, ◌/◌, Bool, false, nat_le, List, [], ◌∷◌, length, map, sum_by, Option, Some, None, codes, if◌then◌else◌, unwrap_or}
 use Rattle.md5.specs.Md5.{md5}
 use Rattle.eb_bytes.specs.Text.{Text, lines, has_bytes, norm}
-use Rattle.md5_cache.specs.declared.key.Key.{Key}
-use Rattle.md5_cache.specs.declared.key.Key.TheVariants as key
-use Rattle.md5_cache.specs.Key.{key_name}
-use Rattle.md5_cache.specs.Entry.{EntryContent, HasNoZero, all_keys, kept_values}
+use Rattle.eapi_tables.specs.declared.key.Key.{Key}
+use Rattle.eapi_tables.specs.declared.key.Key.TheVariants as key
+use Rattle.eapi_tables.specs.Key.{all_keys, key_name}
+use Rattle.md5_cache.specs.Entry.{EntryContent, HasNoZero, kept_values}
 use Rattle.egencache.specs.declared.fault.Fault.TheVariants.{FormNotYet, SlotMissing}
 use Rattle.egencache.specs.declared.source.Outcome.{Outcome}
 use Rattle.egencache.specs.declared.source.Outcome.TheVariants as outcome

@@ -8,9 +8,10 @@ ghost use Rattle.egencache.specs.Seen.{assigned};
 
 use crate::assignments::{Assignment, PlainErr, read_assignments, variable};
 use crate::fault::Fault;
+use eapi_tables::Key;
 use eb_bytes::{Bytes, Memory, Steps};
 use eb_digest::digest_of;
-use md5_cache::{Entry, EntryErr, Key};
+use md5_cache::{Entry, EntryErr};
 use std::alloc::Global;
 use std::sync::ledger::Ledger;
 

@@ -4,8 +4,8 @@ use Rattle.std.specs.Prelude.{codes}
 use Rattle.eb_bytes.specs.Text.{Text}
 use Rattle.eb_digest.specs.Digest.{digest_text}
 use Rattle.md5_cache.specs.Entry.{entry_text, kept_values}
-use Rattle.md5_cache.specs.declared.key.Key.{Key}
-use Rattle.md5_cache.specs.declared.key.Key.TheVariants as key
+use Rattle.eapi_tables.specs.declared.key.Key.{Key}
+use Rattle.eapi_tables.specs.declared.key.Key.TheVariants as key
 
 -- in another order, with blanks to drop, a key without words, and one that EAPI 7 does not have
 abbrev given : List (Key × Text)

@@ -13,14 +13,16 @@ use Rattle.std.proofs.lemmas.List.Elements.{All-contains, All-from_recursion, Al
 use Rattle.std.specs.Result.{result_ok}
 use Rattle.std.specs.Cmp.Lexicographic.{bytes_decides, pointwise}
 use Rattle.eb_bytes.specs.Text.{Text, has_bytes, norm}
-use Rattle.md5_cache.specs.Eapi.{eapi_number, eapi_text, has_key, since_eapi}
-use Rattle.md5_cache.specs.Entry.{HasNoZero, IsEntry, all_keys, eapi_of, is_complete, is_known, kept_value, kept_values, key_place, named_eapi, value_of, words_of}
-use Rattle.md5_cache.specs.Record.{IsEclassName, IsRecordOf}
-use Rattle.md5_cache.specs.declared.eapi.Eapi.{Eapi}
-use Rattle.md5_cache.specs.declared.eapi.EapiUnknown.{EapiUnknown}
-use Rattle.md5_cache.specs.declared.eapi.Eapi.TheVariants.{E0, E1, E2, E3, E4, E5, E6, E7, E8}
-use Rattle.md5_cache.specs.declared.key.Key.{Key}
-use Rattle.md5_cache.specs.declared.key.Key.TheVariants as key
+use Rattle.eapi_tables.specs.Eapi.{eapi_number, eapi_text, has_key, since_eapi}
+use Rattle.eapi_tables.specs.EclassName.{IsEclassName}
+use Rattle.eapi_tables.specs.Key.{all_keys, key_place}
+use Rattle.md5_cache.specs.Entry.{HasNoZero, IsEntry, eapi_of, is_complete, is_known, kept_value, kept_values, named_eapi, value_of, words_of}
+use Rattle.md5_cache.specs.Record.{IsRecordOf}
+use Rattle.eapi_tables.specs.declared.eapi.Eapi.{Eapi}
+use Rattle.eapi_tables.specs.declared.eapi.EapiUnknown.{EapiUnknown}
+use Rattle.eapi_tables.specs.declared.eapi.Eapi.TheVariants.{E0, E1, E2, E3, E4, E5, E6, E7, E8}
+use Rattle.eapi_tables.specs.declared.key.Key.{Key}
+use Rattle.eapi_tables.specs.declared.key.Key.TheVariants as key
 use Rattle.md5_cache.proofs.Norm.{All-norm, norm-norm}
 
 abbrev Value : Type 0

@@ -1,5 +1,5 @@
 -- What an entry says, and its text.
-use Rattle.std.specs.Prelude.{◌≡◌, ◌≢◌, ℕ, Bool, false, ◌==◌, ◌&&◌, if◌then◌else◌, List, [], ◌∷◌, ◌++◌, map, find, All, Option, Some, None, IsSome, IsTrue, codes, nat_eq}
+use Rattle.std.specs.Prelude.{◌≡◌, ◌≢◌, Bool, false, ◌==◌, ◌&&◌, if◌then◌else◌, List, [], ◌∷◌, ◌++◌, map, find, All, Option, Some, None, IsSome, IsTrue, codes, nat_eq}
 use Rattle.std.specs.List.{filter_map, flat_map, list_all}
 use Rattle.std.specs.List.Sorted.{IsStrictlySortedBy}
 use Rattle.std.specs.Option.{option_map_or}
@@ -7,13 +7,14 @@ use Rattle.std.specs.Ordering.{nat_cmp}
 use Rattle.std.specs.Cmp.Lexicographic.{pointwise}
 use Rattle.eb_bytes.specs.Text.{Text, has_bytes, norm}
 use Rattle.eb_digest.specs.Digest.{digest_text}
-use Rattle.md5_cache.specs.Eapi.{eapi_text, has_key}
-use Rattle.md5_cache.specs.Key.{key_name}
-use Rattle.md5_cache.specs.Record.{AreByName, IsEclassName, record_text}
-use Rattle.md5_cache.specs.declared.eapi.Eapi.{Eapi}
-use Rattle.md5_cache.specs.declared.eapi.Eapi.TheVariants.{E0, E1, E2, E3, E4, E5, E6, E7, E8}
-use Rattle.md5_cache.specs.declared.key.Key.{Key}
-use Rattle.md5_cache.specs.declared.key.Key.TheVariants as key
+use Rattle.eapi_tables.specs.Eapi.{eapi_text, has_key}
+use Rattle.eapi_tables.specs.EclassName.{IsEclassName}
+use Rattle.eapi_tables.specs.Key.{all_keys, key_name, key_place}
+use Rattle.md5_cache.specs.Record.{AreByName, record_text}
+use Rattle.eapi_tables.specs.declared.eapi.Eapi.{Eapi}
+use Rattle.eapi_tables.specs.declared.eapi.Eapi.TheVariants.{E0, E1, E2, E3, E4, E5, E6, E7, E8}
+use Rattle.eapi_tables.specs.declared.key.Key.{Key}
+use Rattle.eapi_tables.specs.declared.key.Key.TheVariants as key
 
 -- what an entry says of an ebuild: its values in the order of the lines, its eclasses with their MD5s, and its own MD5
 pub record EntryContent : Type 0 where
@@ -22,33 +23,6 @@ pub record EntryContent : Type 0 where
   pub md5 : Text
 
 -- ---- the keys
-
--- every key, in the order of an entry's lines
-abbrev pub all_keys : List Key
-all_keys =
-    key.Bdepend ∷ key.DefinedPhases ∷ key.Depend ∷ key.Description ∷ key.Eapi ∷ key.Homepage ∷ key.Idepend ∷ key.Inherit ∷ key.Iuse
-    ∷ key.Keywords ∷ key.License ∷ key.Pdepend ∷ key.Properties ∷ key.Rdepend ∷ key.RequiredUse ∷ key.Restrict ∷ key.Slot ∷ key.SrcUri ∷ []
-
--- the key's place in that order
-abbrev pub key_place : Key → ℕ
-key_place key.Bdepend = 0
-key_place key.DefinedPhases = 1
-key_place key.Depend = 2
-key_place key.Description = 3
-key_place key.Eapi = 4
-key_place key.Homepage = 5
-key_place key.Idepend = 6
-key_place key.Inherit = 7
-key_place key.Iuse = 8
-key_place key.Keywords = 9
-key_place key.License = 10
-key_place key.Pdepend = 11
-key_place key.Properties = 12
-key_place key.Rdepend = 13
-key_place key.RequiredUse = 14
-key_place key.Restrict = 15
-key_place key.Slot = 16
-key_place key.SrcUri = 17
 
 -- the keys that stand in every entry
 abbrev pub always_keys : List Key

@@ -1,12 +1,13 @@
 ghost use Rattle.std.specs.Prelude.{◌≡◌, ◌==◌, false, All, IfOk, IsTrue, IsSome, OnOk, find};
 ghost use Rattle.std.specs.Option.{option_copied};
 ghost use Rattle.eb_bytes.specs.Text.{has_bytes};
-ghost use Rattle.md5_cache.specs.Entry.{HasNoZero, IsEntry, eapi_of, is_complete, kept_value, kept_values, key_place, value_of, words_of};
-ghost use Rattle.md5_cache.specs.Record.{HasOneMd5, IsEclassName, IsRecordOf};
+ghost use Rattle.eapi_tables.specs.EclassName.{IsEclassName};
+ghost use Rattle.eapi_tables.specs.Key.{key_place};
+ghost use Rattle.md5_cache.specs.Entry.{HasNoZero, IsEntry, eapi_of, is_complete, kept_value, kept_values, value_of, words_of};
+ghost use Rattle.md5_cache.specs.Record.{HasOneMd5, IsRecordOf};
 
-use crate::eapi::{Eapi, has_key};
-use crate::key::Key;
 use crate::record::record_of;
+use eapi_tables::{Eapi, Key, has_key};
 use eb_bytes::{Bytes, Memory, join_words};
 use eb_digest::Digest;
 use std::alloc::Global;

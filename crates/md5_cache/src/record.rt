@@ -1,46 +1,10 @@
-ghost use Rattle.std.specs.Prelude.{◌≡◌, ◌↔◌, All, Contains, IfOk, IsTrue};
-ghost use Rattle.std.specs.List.{AllPass};
-ghost use Rattle.md5_cache.specs.Record.{AreByName, HasOneMd5, IsEclassName, IsRecordOf, begins_name, is_name_byte, is_name_start};
+ghost use Rattle.std.specs.Prelude.{◌≡◌, All, Contains, IfOk};
+ghost use Rattle.md5_cache.specs.Record.{AreByName, HasOneMd5, IsRecordOf};
 
 use eb_bytes::{Bytes, Memory};
 use eb_digest::Digest;
 use std::alloc::Global;
 use std::collections::BTreeMap;
-
-fn is_name_start(byte: u8) -> bool
-    ensures { result ≡ is_name_start byte }
-{
-    matches!(byte, b'A'..=b'Z' | b'a'..=b'z' | b'_')
-}
-
-fn is_name_byte(byte: u8) -> bool
-    ensures { result ≡ is_name_byte byte }
-{
-    is_name_start(byte) || matches!(byte, b'0'..=b'9' | b'.' | b'-')
-}
-
-fn begins_name(text: &[u8]) -> bool
-    ensures { result ≡ begins_name text.now }
-{
-    match text.first() {
-        Some(byte) => is_name_start(*byte),
-        None => false,
-    }
-}
-
-fn are_name_bytes(text: &[u8]) -> bool
-    ensures { IsTrue result ↔ AllPass is_name_byte text.now }
-{
-    text.iter().all(|byte| is_name_byte(*byte))
-}
-
-/// Whether a text has the form of an eclass's name (Package Manager Specification, "Eclass names"): ASCII letters,
-/// digits, `_`, `.` and `-`, a letter or `_` first, and not `default`.
-pub fn is_eclass_name(text: &[u8]) -> bool
-    ensures { IsTrue result ↔ IsEclassName text.now }
-{
-    are_name_bytes(text) && begins_name(text) && text != b"default".as_slice()
-}
 
 // The eclasses as a map from their names.
 fn map_of(alloc: Global, eclasses: Vec<(Bytes, Digest)>) -> Result<BTreeMap<Bytes, Digest>, Memory>

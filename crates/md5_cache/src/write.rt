@@ -4,7 +4,7 @@ ghost use Rattle.md5_cache.specs.Entry.{eclasses_line, entry_text, line, value_l
 ghost use Rattle.md5_cache.specs.Record.{eclass_text, record_text};
 
 use crate::entry::Entry;
-use crate::key::Key;
+use eapi_tables::Key;
 use eb_bytes::{Bytes, Memory};
 use eb_digest::Digest;
 use std::alloc::Global;

@@ -1,10 +1,11 @@
 ghost use Rattle.std.specs.Prelude.{◌≡◌, All, IsTrue};
+ghost use Rattle.eapi_tables.specs.EclassName.{IsEclassName};
 ghost use Rattle.md5_cache.specs.Entry.{HasNoZero};
-ghost use Rattle.md5_cache.specs.Record.{HasOneMd5, IsEclassName};
+ghost use Rattle.md5_cache.specs.Record.{HasOneMd5};
 
 use super::*;
-use crate::record::is_eclass_name;
 use crate::write::write_entry;
+use eapi_tables::is_eclass_name;
 use eb_digest::digest_of;
 
 fn values_of(alloc: Global, rows: &[(Key, &str)]) -> Result<Vec<(Key, Bytes)>, Memory> {
@@ -188,21 +189,4 @@ fn incomplete_entries(rt: HostRuntime) {
         (Key::DefinedPhases, "-"),
     ];
     assert!(rt; matches!(text_of(rt.alloc(), &blank, &[]), Err(EntryErr::Incomplete)));
-}
-
-#[test]
-fn eclass_names(rt: HostRuntime) {
-    for (text, want) in [
-        ("toolchain-funcs", true),
-        ("_a.b-C9", true),
-        ("defaults", true),
-        ("default", false),
-        ("", false),
-        ("9a", false),
-        ("-a", false),
-        ("a b", false),
-        ("a/b", false),
-    ] {
-        assert_eq!(rt; is_eclass_name(text.as_bytes()), want, "at {text}");
-    }
 }

@@ -1,5 +1,5 @@
 use Rattle.std.proofs.Common.{◌≡◌, map, take}
-use Rattle.md5_cache.specs.Entry.{all_keys}
+use Rattle.eapi_tables.specs.Key.{all_keys}
 use Rattle.egencache.specs.Meaning.{final_value}
 use Rattle.egencache.specs.Seen.{assigned}
 use Rattle.egencache.proofs.source.final_values.Given as goal

@@ -2,9 +2,10 @@ use Rattle.std.proofs.Common.{◌≡◌, ◌<◌, Bool, true, false, ◌&&◌, c
 use Rattle.std.specs.List.{AllByRecursion}
 use Rattle.std.proofs.lemmas.List.Elements.{All-from_recursion}
 use Rattle.eb_bytes.specs.Text.{Text, has_bytes, norm}
-use Rattle.md5_cache.specs.Entry.{EntryContent, HasNoZero, all_keys, eapi_of, is_complete, kept_values}
+use Rattle.eapi_tables.specs.Key.{all_keys}
+use Rattle.md5_cache.specs.Entry.{EntryContent, HasNoZero, eapi_of, is_complete, kept_values}
 use Rattle.md5_cache.specs.Record.{IsRecordOf}
-use Rattle.md5_cache.specs.declared.key.Key.{Key}
+use Rattle.eapi_tables.specs.declared.key.Key.{Key}
 use Rattle.egencache.specs.declared.source.Outcome.{Outcome}
 use Rattle.egencache.specs.declared.source.Outcome.TheVariants as gives
 use Rattle.egencache.specs.Assignments.{Assigned, text_of}

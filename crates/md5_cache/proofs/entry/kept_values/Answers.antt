@@ -1,7 +1,8 @@
 use Rattle.std.proofs.Common.{◌≡◌, append-nil, get_or, refl, arith}
 use Rattle.md5_cache.proofs.Kept.{filter_map-more}
-use Rattle.md5_cache.specs.Entry.{all_keys, kept_value}
-use Rattle.md5_cache.specs.declared.key.Key.TheVariants as key
+use Rattle.eapi_tables.specs.Key.{all_keys}
+use Rattle.md5_cache.specs.Entry.{kept_value}
+use Rattle.eapi_tables.specs.declared.key.Key.TheVariants as key
 use Rattle.md5_cache.proofs.entry.kept_values.Goals as goal
 use Rattle.md5_cache.proofs.entry.kept_values.Goals.{in-Some+in_ok-push, in_default}
 

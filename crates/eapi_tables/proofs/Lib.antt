@@ -1,0 +1,4 @@
+pub mod EapiParts
+pub mod Keys
+pub mod Phases
+pub mod Runs

@@ -1,0 +1,6 @@
+pub mod Eapi
+pub mod EapiLine
+pub mod EapiValue
+pub mod EclassName
+pub mod Key
+pub mod Phase
