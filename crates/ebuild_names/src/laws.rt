@@ -1,0 +1,36 @@
+ghost use Rattle.std.specs.Prelude.{◌≡◌};
+ghost use Rattle.std.specs.Cmp.{IsTotalOrder};
+ghost use Rattle.std.specs.declared.cmp.Ordering.TheVariants.{Equal};
+ghost use Rattle.ebuild_names.specs.Laws.{BadIsOne, FileIsFullName, FullNameHasOneCut, FullNameHasOnePath, FullNameHasRevision, FullNameHasVersion, NamedIsNotBad, NamesAreOne};
+ghost use Rattle.ebuild_names.specs.Path.{path_order};
+
+use crate::path::EbuildPath;
+
+/// A path either gives names or is wrong in one part; and it gives the names in one way.
+pub fn path_has_one_answer()
+    ensures names { NamesAreOne }
+    ensures not_both { NamedIsNotBad }
+    ensures bad { BadIsOne }
+{}
+
+/// The file's name is `PF` and `.ebuild`; `PF` is `PN`, a hyphen and `PVR`; and it is `P`, with a hyphen and `PR` behind
+/// it where a revision is written.
+pub fn names_make_up_the_full_name()
+    ensures file { FileIsFullName }
+    ensures version { FullNameHasVersion }
+    ensures revision { FullNameHasRevision }
+{}
+
+/// `PF` says where `PN` ends. So two paths with one category and one `PF` are the same.
+pub fn full_name_says_the_path()
+    ensures cut { FullNameHasOneCut }
+    ensures path { FullNameHasOnePath }
+{}
+
+/// Paths order by category, then by package, then by file, each byte by byte. That is a total order, and paths that it
+/// calls equal are the same.
+pub fn paths_order_by_their_parts()
+    ensures order { ⟦<EbuildPath as Ord>⟧.cmp ≡ path_order }
+    ensures total { IsTotalOrder path_order }
+    ensures exact { (a b : EbuildPath) → path_order a b ≡ Equal → a ≡ b }
+{}
