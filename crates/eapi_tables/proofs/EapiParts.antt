@@ -9,6 +9,7 @@ use Rattle.std.proofs.lemmas.List.Elements.{All-append, All-cons, All-nil}
 use Rattle.eb_bytes.specs.Text.{Text, is_blank}
 use Rattle.eapi_tables.specs.EapiLine.{is_eapi_byte, IsMatched, IsQuote, IsTail, MatchesEapi, or_zero}
 use Rattle.eapi_tables.specs.EapiValue.{Closes, Finds, IsEnding, IsValueOf}
+use Rattle.eapi_tables.specs.TextEapi.{front_quote}
 use Rattle.eapi_tables.proofs.Runs.{starts, drop_is, take_is, AllPass-take, head_passes, tail_passes}
 
 blank_cases : (b : ℕ) → is_blank b ≡ true → (b ≡ 32) ⊎ (b ≡ 9)
@@ -103,33 +104,28 @@ pub closes_rest : (quote text group : Text) → IsQuote quote → Closes quote t
 closes_rest quote text group q h =
     (h.ending, drop_is is_eapi_byte text group (quote ++ h.ending) h.parts h.group_is (starts-quote quote h.ending q h.ending_is), h.ending_is)
 
--- the quote at the front of a text, if there is one
-abbrev pub quote_part : Text → Text
-quote_part [] = []
-quote_part (b ∷ bs) = cond (b == 39 || b == 34) (b ∷ []) []
-
-quote_part-none : (t : Text) → starts is_quote_byte t ≡ false → quote_part t ≡ []
-quote_part-none [] h = refl
-quote_part-none (b ∷ bs) h = rw h refl
+front_quote-none : (t : Text) → starts is_quote_byte t ≡ false → front_quote t ≡ []
+front_quote-none [] h = refl
+front_quote-none (b ∷ bs) h = rw h refl
 
 starts-group : (group ending : Text) → AllPass is_eapi_byte group → IsEnding ending → starts is_quote_byte (group ++ ending) ≡ false
 starts-group [] ending h e = starts-ending is_quote_byte blank_not_quote ending e
 starts-group (x ∷ xs) ending h e = eapi_not_quote x (head_passes is_eapi_byte x xs h)
 
-unquoted : (rest group : Text) → Closes [] rest group → quote_part rest ≡ []
-unquoted rest group h = ap quote_part h.parts ∙ quote_part-none (group ++ h.ending) (starts-group group h.ending h.group_is h.ending_is)
+unquoted : (rest group : Text) → Closes [] rest group → front_quote rest ≡ []
+unquoted rest group h = ap front_quote h.parts ∙ front_quote-none (group ++ h.ending) (starts-group group h.ending h.group_is h.ending_is)
 
-value_quote : (value quote rest group : Text) → value ≡ quote ++ rest → IsQuote quote → Closes quote rest group → quote_part value ≡ quote
+value_quote : (value quote rest group : Text) → value ≡ quote ++ rest → IsQuote quote → Closes quote rest group → front_quote value ≡ quote
 value_quote value quote rest group parts q h = elim q [
-  | inl e ↦ ap quote_part (parts ∙ ap (λ t. t ++ rest) e) ∙ unquoted rest group (subst (λ t. Closes t rest group) e h) ∙ sym e
+  | inl e ↦ ap front_quote (parts ∙ ap (λ t. t ++ rest) e) ∙ unquoted rest group (subst (λ t. Closes t rest group) e h) ∙ sym e
   | inr some ↦ elim some [
-    | inl e ↦ ap quote_part (parts ∙ ap (λ t. t ++ rest) e) ∙ sym e
-    | inr e ↦ ap quote_part (parts ∙ ap (λ t. t ++ rest) e) ∙ sym e
+    | inl e ↦ ap front_quote (parts ∙ ap (λ t. t ++ rest) e) ∙ sym e
+    | inr e ↦ ap front_quote (parts ∙ ap (λ t. t ++ rest) e) ∙ sym e
   ]
 ]
 
 -- the quote at its front is the quote of a value
-pub value_closes : (quote inner value group : Text) → quote_part value ≡ quote → value ≡ quote ++ inner → IsValueOf value group → Closes quote inner group
+pub value_closes : (quote inner value group : Text) → front_quote value ≡ quote → value ≡ quote ++ inner → IsValueOf value group → Closes quote inner group
 value_closes quote inner value group q parts v =
     let same : v.quote ≡ quote = sym (value_quote value v.quote v.rest group v.parts v.quote_is v.closes) ∙ q in
     let rest_is : v.rest ≡ inner =
@@ -191,13 +187,13 @@ line_value line group m =
 
 -- a line matches one group at most
 
-closes_one : (quote text group : Text) → IsQuote quote → Closes quote text group → take (prefix_len is_eapi_byte text) text ≡ group
+pub closes_one : (quote text group : Text) → IsQuote quote → Closes quote text group → take (prefix_len is_eapi_byte text) text ≡ group
 closes_one quote text group q h =
     take_is is_eapi_byte text group (quote ++ h.ending) h.parts h.group_is (starts-quote quote h.ending q h.ending_is)
 
 value_one : (value group other : Text) → IsValueOf value group → IsValueOf value other → other ≡ group
 value_one value group other v w =
-    let front : quote_part value ≡ v.quote = value_quote value v.quote v.rest group v.parts v.quote_is v.closes in
+    let front : front_quote value ≡ v.quote = value_quote value v.quote v.rest group v.parts v.quote_is v.closes in
     let closes : Closes v.quote v.rest other = value_closes v.quote v.rest value other front v.parts w in
     sym (closes_one v.quote v.rest other v.quote_is closes) ∙ closes_one v.quote v.rest group v.quote_is v.closes
 
@@ -217,11 +213,11 @@ first_is (x ∷ xs) b some e = ap (λ y. y ∷ xs) e
 pub front_is : (t : Text) (b : ℕ) → 1 ≤ length t → get_or t 0 0 ≡ b → t ≡ b ∷ take (length t - 1) (drop 1 t)
 front_is t b some e = first_is t b some e ∙ ap (λ r. b ∷ r) (sym (take_rest t 1))
 
-pub unquoted_part : (t : Text) → (get_or t 0 0 ≡ 39 → ⊥) → (get_or t 0 0 ≡ 34 → ⊥) → quote_part t ≡ []
+pub unquoted_part : (t : Text) → (get_or t 0 0 ≡ 39 → ⊥) → (get_or t 0 0 ≡ 34 → ⊥) → front_quote t ≡ []
 unquoted_part [] single double = refl
 unquoted_part (x ∷ xs) single double =
     let other : is_quote_byte x ≡ false = grind arith in
-    quote_part-none (x ∷ xs) other
+    front_quote-none (x ∷ xs) other
 
 pub nil_is : (t : Text) → length t < 1 → t ≡ []
 nil_is [] h = refl
@@ -264,7 +260,7 @@ closes_none quote text rest n count back q none group h =
     let r = closes_rest quote text group q h in
     none r.0 (back ∙ ap (λ k. drop k text) count ∙ r.1) r.2
 
-pub value_cases : (r : Option (Bor Text)) (quote inner value : Text) → quote_part value ≡ quote → IsQuote quote → value ≡ quote ++ inner
+pub value_cases : (r : Option (Bor Text)) (quote inner value : Text) → front_quote value ≡ quote → IsQuote quote → value ≡ quote ++ inner
     → Finds (option_copied r) (Closes quote inner)
     → Finds (option_copied r) (IsValueOf value)
 value_cases None quote inner value front q parts h = λ group v. h group (value_closes quote inner value group front parts v)

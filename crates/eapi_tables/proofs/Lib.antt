@@ -2,3 +2,4 @@ pub mod EapiParts
 pub mod Keys
 pub mod Phases
 pub mod Runs
+pub mod TextEapi

@@ -4,3 +4,4 @@ pub mod EapiValue
 pub mod EclassName
 pub mod Key
 pub mod Phase
+pub mod TextEapi

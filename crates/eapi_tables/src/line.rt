@@ -3,6 +3,7 @@ ghost use Rattle.std.specs.List.{find, prefix_len};
 ghost use Rattle.std.specs.Option.{option_copied};
 ghost use Rattle.eb_bytes.specs.Text.{is_blank as blank_byte};
 ghost use Rattle.eapi_tables.specs.EapiLine.{has_content as content, is_eapi_byte as eapi_byte, opening_line as opening, IsEapiText, IsMatched, IsQuote, IsUnmatched, MatchesEapi};
+ghost use Rattle.eapi_tables.specs.TextEapi.{text_eapi};
 ghost use Rattle.eapi_tables.specs.EapiValue.{Closes, Finds, IsEnding, IsValueOf};
 
 /// The EAPI that the text of an ebuild names, as its bytes: by its first line that is neither blank nor a comment, and
@@ -12,7 +13,8 @@ ghost use Rattle.eapi_tables.specs.EapiValue.{Closes, Finds, IsEnding, IsValueOf
 /// comment after one of them. The value may stand in two `'` or two `"`, and may be no EAPI at all (Package Manager
 /// Specification, 7.3.1).
 pub fn eapi_line(text: &[u8]) -> &[u8]
-    ensures { IsEapiText text.now result.now }
+    ensures written { IsEapiText text.now result.now }
+    ensures read { result.now ≡ text_eapi text.now }
 {
     match opening_line(text) {
         Some(line) => line_eapi(line),

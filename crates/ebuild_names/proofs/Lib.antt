@@ -1,3 +1,4 @@
+pub mod BadKind
 pub mod Cuts
 pub mod Ends
 pub mod Examples

@@ -1,3 +1,4 @@
+pub mod BadKind
 pub mod Form
 pub mod Laws
 pub mod Path

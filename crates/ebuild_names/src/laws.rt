@@ -1,16 +1,24 @@
-ghost use Rattle.std.specs.Prelude.{◌≡◌};
+ghost use Rattle.std.specs.Prelude.{◌≡◌, None, Some};
 ghost use Rattle.std.specs.Cmp.{IsTotalOrder};
 ghost use Rattle.std.specs.declared.cmp.Ordering.TheVariants.{Equal};
 ghost use Rattle.ebuild_names.specs.Laws.{BadIsOne, FileIsFullName, FullNameHasOneCut, FullNameHasOnePath, FullNameHasRevision, FullNameHasVersion, NamedIsNotBad, NamesAreOne};
-ghost use Rattle.ebuild_names.specs.Path.{path_order};
+ghost use Rattle.ebuild_names.specs.BadKind.{bad_kind};
+ghost use Rattle.ebuild_names.specs.Path.{GivesNames, IsBad, path_order};
 
-use crate::path::EbuildPath;
+use crate::path::{EbuildPath, NameKind, Names};
 
 /// A path either gives names or is wrong in one part; and it gives the names in one way.
 pub fn path_has_one_answer()
     ensures names { NamesAreOne }
     ensures not_both { NamedIsNotBad }
     ensures bad { BadIsOne }
+{}
+
+/// What `bad_kind` finds from the left is the first part of a path that does not hold, and nothing where the path gives
+/// names.
+pub fn bad_kind_is_the_first_bad_part()
+    ensures bad { (at : EbuildPath) (kind : NameKind) → IsBad at kind → bad_kind at ≡ Some kind }
+    ensures none { (at : EbuildPath) (names : Names) → GivesNames at names → bad_kind at ≡ None }
 {}
 
 /// The file's name is `PF` and `.ebuild`; `PF` is `PN`, a hyphen and `PVR`; and it is `P`, with a hyphen and `PR` behind

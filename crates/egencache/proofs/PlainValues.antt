@@ -1,18 +1,20 @@
--- The values of plain assignments hold no byte 0, and that of EAPI is one digit.
+-- The values of plain assignments hold no byte 0, and the EAPI of an entry is a known one.
 use Rattle.std.proofs.Common.{◌≡◌, ◌≢◌, ℕ, zero, suc, ◌+◌, ◌-◌, ◌<◌, ◌≤◌, Bool, true, false, ◌&&◌, ◌==◌, nat_le, cond, List, [], ◌∷◌, take, Option, Some, None, IsSome, codes, unwrap_or, refl, sym, subst, arith}
 use Rattle.std.specs.List.{AllByRecursion, list_all, list_any, prefix_len, take_while}
 use Rattle.std.proofs.lemmas.Bool.{leb-true}
 use Rattle.std.proofs.lemmas.Option.{cond_some}
 use Rattle.std.proofs.lemmas.List.Elements.{All-cons}
-use Rattle.eb_bytes.specs.Text.{Text, is_blank, norm}
+use Rattle.eb_bytes.specs.Text.{Text, has_bytes, is_blank, norm}
 use Rattle.md5_cache.specs.Entry.{HasNoZero, named_eapi}
+use Rattle.eapi_tables.specs.declared.eapi.Eapi.{Eapi}
+use Rattle.eapi_tables.specs.declared.eapi.Eapi.TheVariants as eapi
 use Rattle.eapi_tables.specs.declared.key.Key.{Key}
 use Rattle.eapi_tables.specs.declared.key.Key.TheVariants as key
+use Rattle.eapi_tables.specs.Eapi.{eapi_number, eapi_text}
 use Rattle.eapi_tables.specs.Key.{key_name}
-use Rattle.egencache.specs.Assignments.{Assigned, assignments_of, bad_line_from, is_eapi, is_plain_assignment, is_plain_line, is_text, later_or, still_first, text_of, value_if, variable, with_line}
-use Rattle.egencache.specs.Meaning.{HasZeroFreeValue, IsEapi, ebuild_eapi, final_value, has_implicit_rdepend, rdepend_of}
+use Rattle.egencache.specs.Assignments.{Assigned, assignments_of, is_text, later_or, text_of, value_if, variable, with_line}
+use Rattle.egencache.specs.Meaning.{HasZeroFreeValue, final_value, has_implicit_rdepend, rdepend_of}
 use Rattle.egencache.specs.Plain.{PlainLine, Nothing, Assigns, Other, after_while, assigned_line, bare_value, before_blanks, closed_value, is_bare, is_name, is_name_byte, is_quotable, is_zero, line_from, plain_line, spelled_value, with_value}
-use Rattle.egencache.proofs.Conditions.{both_true, none_chosen}
 
 -- ---- byte 0
 
@@ -88,61 +90,32 @@ assignments-free (line ∷ lines) = with_line-free (plain_line line) (assignment
 
 -- ---- EAPI
 
--- a value of EAPI, if there is one, is one digit
-abbrev pub HasEapi : Option Text → Type 0
-HasEapi None = Unit {0}
-HasEapi (Some value) = IsEapi value
+eapi_text-free : (eapi : Eapi) → HasNoZero (eapi_text eapi)
+eapi_text-free eapi = HasNoZero-cons (48 + eapi_number eapi) [] (λ z. omega arith) HasNoZero-nil
 
-later_or-eapi : (o earlier : Option Text) → HasEapi o → HasEapi earlier → HasEapi (later_or o earlier)
-later_or-eapi None earlier a b = b
-later_or-eapi (Some v) earlier a b = a
+-- an EAPI's text names it
+pub named_eapi-text : (eapi : Eapi) → IsSome (named_eapi (norm (eapi_text eapi)))
+named_eapi-text eapi.E0 = refl
+named_eapi-text eapi.E1 = refl
+named_eapi-text eapi.E2 = refl
+named_eapi-text eapi.E3 = refl
+named_eapi-text eapi.E4 = refl
+named_eapi-text eapi.E5 = refl
+named_eapi-text eapi.E6 = refl
+named_eapi-text eapi.E7 = refl
+named_eapi-text eapi.E8 = refl
 
-value_if-eapi : (first : Bool) (name value : Text) → is_plain_assignment first name value ≡ true → HasEapi (value_if (codes "EAPI") (record { name = name; value = value }))
-value_if-eapi first name value plain = on (is_text name (codes "EAPI")) plain
-  where
-    on : (w : Bool) → cond w (first && is_eapi value) true ≡ true → HasEapi (cond w (Some value) None)
-    on true h = (both_true first (is_eapi value) h).1
-    on false h = tt
-
-with_line-eapi : (n : ℕ) (first : Bool) (line : PlainLine) (lines : List Text) → ((n : ℕ) (first : Bool) → bad_line_from n first lines ≡ None → HasEapi (variable (codes "EAPI") (assignments_of lines))) → cond (is_plain_line first line) (bad_line_from (n + 1) (still_first first line) lines) (Some n) ≡ None → HasEapi (variable (codes "EAPI") (with_line line (assignments_of lines)))
-with_line-eapi n first Nothing lines rest h = rest (n + 1) first h
-with_line-eapi n first (Assigns name value) lines rest h =
-    let both = none_chosen (is_plain_assignment first name value) (bad_line_from (n + 1) false lines) n h in
-    later_or-eapi (variable (codes "EAPI") (assignments_of lines)) (value_if (codes "EAPI") (record { name = name; value = value })) (rest (n + 1) false both.1) (value_if-eapi first name value both.0)
-with_line-eapi n first Other lines rest h = absurd (cc)
-
-pub plain-eapi : (n : ℕ) (first : Bool) (lines : List Text) → bad_line_from n first lines ≡ None → HasEapi (variable (codes "EAPI") (assignments_of lines))
-plain-eapi n first [] h = tt
-plain-eapi n first (line ∷ lines) h = with_line-eapi n first (plain_line line) lines (λ n first. plain-eapi n first lines) h
-
-unwrap_or-eapi : (o : Option Text) → HasEapi o → IsEapi (unwrap_or o (codes "0"))
-unwrap_or-eapi None h = refl
-unwrap_or-eapi (Some value) h = h
-
-pub ebuild_eapi-plain : (n : ℕ) (first : Bool) (lines : List Text) → bad_line_from n first lines ≡ None → IsEapi (ebuild_eapi (assignments_of lines))
-ebuild_eapi-plain n first lines h = unwrap_or-eapi _ (plain-eapi n first lines h)
-
-digit_named : (d : ℕ) → d ≤ 8 → IsSome (named_eapi (norm ((48 + d) ∷ [])))
-digit_named zero h = refl
-digit_named (suc zero) h = refl
-digit_named (suc (suc zero)) h = refl
-digit_named (suc (suc (suc zero))) h = refl
-digit_named (suc (suc (suc (suc zero)))) h = refl
-digit_named (suc (suc (suc (suc (suc zero))))) h = refl
-digit_named (suc (suc (suc (suc (suc (suc zero)))))) h = refl
-digit_named (suc (suc (suc (suc (suc (suc (suc zero))))))) h = refl
-digit_named (suc (suc (suc (suc (suc (suc (suc (suc zero)))))))) h = refl
-digit_named (suc (suc (suc (suc (suc (suc (suc (suc (suc d))))))))) h = absurd (omega arith)
-
-pub named_eapi-plain : (text : Text) → IsEapi text → IsSome (named_eapi (norm text))
-named_eapi-plain [] h = absurd (cc)
-named_eapi-plain (b ∷ []) h =
-    let low : 48 ≤ b = leb-true 48 b (both_true (nat_le 48 b) (nat_le b 56) h).0 in
-    let high : b ≤ 56 = leb-true b 56 (both_true (nat_le 48 b) (nat_le b 56) h).1 in
-    let e : 48 + (b - 48) ≡ b = omega arith in
-    let P : ℕ → Type 0 = λ n. IsSome (named_eapi (norm (n ∷ []))) in
-    subst P e (digit_named (b - 48) (omega arith))
-named_eapi-plain (b ∷ c ∷ bs) h = absurd (cc)
+-- an EAPI has a word
+pub eapi_text-words : (eapi : Eapi) → has_bytes (norm (eapi_text eapi)) ≡ true
+eapi_text-words eapi.E0 = refl
+eapi_text-words eapi.E1 = refl
+eapi_text-words eapi.E2 = refl
+eapi_text-words eapi.E3 = refl
+eapi_text-words eapi.E4 = refl
+eapi_text-words eapi.E5 = refl
+eapi_text-words eapi.E6 = refl
+eapi_text-words eapi.E7 = refl
+eapi_text-words eapi.E8 = refl
 
 -- ---- the values of the keys
 
@@ -176,25 +149,25 @@ either_text : (w : Bool) (x y : Text) → HasNoZero x → HasNoZero y → HasNoZ
 either_text true x y a b = a
 either_text false x y a b = b
 
-rdepend_of-free : (given : List Assigned) → AllByRecursion HasZeroFreeValue given → HasNoZero (rdepend_of given)
-rdepend_of-free given h = unwrap_or-free (variable (codes "RDEPEND") given) _ (variable-free (codes "RDEPEND") given h) (either_text (has_implicit_rdepend (ebuild_eapi given)) _ _ (text_of-free (codes "DEPEND") given h) HasNoZero-nil)
+rdepend_of-free : (eapi : Eapi) (given : List Assigned) → AllByRecursion HasZeroFreeValue given → HasNoZero (rdepend_of eapi given)
+rdepend_of-free eapi given h = unwrap_or-free (variable (codes "RDEPEND") given) _ (variable-free (codes "RDEPEND") given h) (either_text (has_implicit_rdepend eapi) _ _ (text_of-free (codes "DEPEND") given h) HasNoZero-nil)
 
-pub final_value-free : (given : List Assigned) → AllByRecursion HasZeroFreeValue given → (k : Key) → HasNoZero (final_value given k)
-final_value-free given h key.Eapi = unwrap_or-free (variable (codes "EAPI") given) (codes "0") (variable-free (codes "EAPI") given h) (HasNoZero-cons 48 [] (λ z. omega arith) HasNoZero-nil)
-final_value-free given h key.DefinedPhases = HasNoZero-cons 45 [] (λ z. omega arith) HasNoZero-nil
-final_value-free given h key.Inherit = HasNoZero-nil
-final_value-free given h key.Rdepend = rdepend_of-free given h
-final_value-free given h key.Bdepend = text_of-free (key_name key.Bdepend) given h
-final_value-free given h key.Depend = text_of-free (key_name key.Depend) given h
-final_value-free given h key.Description = text_of-free (key_name key.Description) given h
-final_value-free given h key.Homepage = text_of-free (key_name key.Homepage) given h
-final_value-free given h key.Idepend = text_of-free (key_name key.Idepend) given h
-final_value-free given h key.Iuse = text_of-free (key_name key.Iuse) given h
-final_value-free given h key.Keywords = text_of-free (key_name key.Keywords) given h
-final_value-free given h key.License = text_of-free (key_name key.License) given h
-final_value-free given h key.Pdepend = text_of-free (key_name key.Pdepend) given h
-final_value-free given h key.Properties = text_of-free (key_name key.Properties) given h
-final_value-free given h key.RequiredUse = text_of-free (key_name key.RequiredUse) given h
-final_value-free given h key.Restrict = text_of-free (key_name key.Restrict) given h
-final_value-free given h key.Slot = text_of-free (key_name key.Slot) given h
-final_value-free given h key.SrcUri = text_of-free (key_name key.SrcUri) given h
+pub final_value-free : (eapi : Eapi) (given : List Assigned) → AllByRecursion HasZeroFreeValue given → (k : Key) → HasNoZero (final_value eapi given k)
+final_value-free eapi given h key.Eapi = eapi_text-free eapi
+final_value-free eapi given h key.DefinedPhases = HasNoZero-cons 45 [] (λ z. omega arith) HasNoZero-nil
+final_value-free eapi given h key.Inherit = HasNoZero-nil
+final_value-free eapi given h key.Rdepend = rdepend_of-free eapi given h
+final_value-free eapi given h key.Bdepend = text_of-free (key_name key.Bdepend) given h
+final_value-free eapi given h key.Depend = text_of-free (key_name key.Depend) given h
+final_value-free eapi given h key.Description = text_of-free (key_name key.Description) given h
+final_value-free eapi given h key.Homepage = text_of-free (key_name key.Homepage) given h
+final_value-free eapi given h key.Idepend = text_of-free (key_name key.Idepend) given h
+final_value-free eapi given h key.Iuse = text_of-free (key_name key.Iuse) given h
+final_value-free eapi given h key.Keywords = text_of-free (key_name key.Keywords) given h
+final_value-free eapi given h key.License = text_of-free (key_name key.License) given h
+final_value-free eapi given h key.Pdepend = text_of-free (key_name key.Pdepend) given h
+final_value-free eapi given h key.Properties = text_of-free (key_name key.Properties) given h
+final_value-free eapi given h key.RequiredUse = text_of-free (key_name key.RequiredUse) given h
+final_value-free eapi given h key.Restrict = text_of-free (key_name key.Restrict) given h
+final_value-free eapi given h key.Slot = text_of-free (key_name key.Slot) given h
+final_value-free eapi given h key.SrcUri = text_of-free (key_name key.SrcUri) given h

@@ -1,10 +1,11 @@
 -- Places and requests as the code reads them, as what they are.
-use Rattle.egencache.specs.declared.request.Place as code
+use Rattle.ebuild_names.specs.declared.path.EbuildPath.{EbuildPath}
+use Rattle.egencache.specs.declared.request.Parts as code
 use Rattle.egencache.specs.declared.request.Request as read
-use Rattle.egencache.specs.Request.{Place, Request}
+use Rattle.egencache.specs.Request.{Request}
 
-abbrev pub placed : code.Place → Place
-placed place = record { category = place.category.now; name = place.name.now; file = place.file.now }
+abbrev pub placed : code.Parts → EbuildPath
+placed parts = record { category = parts.category.now; «package» = parts.name.now; file = parts.file.now }
 
 abbrev pub requested : read.Request → Request
-requested request = record { path = request.path; at = request.at.now; place = placed request.place }
+requested request = record { path = request.path; at = request.at.now; place = request.place }

@@ -7,8 +7,7 @@ use Rattle.egencache.specs.declared.plain.Line.TheVariants as line
 use Rattle.egencache.specs.declared.plain.Class.{Class}
 use Rattle.egencache.specs.declared.plain.Class.TheVariants as class
 use Rattle.eb_bytes.specs.Text.{is_blank}
-use Rattle.egencache.specs.Request.{is_small_or_digit, is_category_byte}
-use Rattle.egencache.specs.Plain.{PlainLine, Nothing, Assigns, Other, is_name_byte, is_bare, is_digit, is_quotable}
+use Rattle.egencache.specs.Plain.{PlainLine, Nothing, Assigns, Other, is_name_byte, is_bare, is_quotable}
 
 abbrev pub seen : Line → PlainLine
 seen line.Nothing = Nothing
@@ -20,9 +19,6 @@ abbrev pub in_class : Class → ℕ → Bool
 in_class class.Blank b = is_blank b
 in_class class.NameByte b = is_name_byte b
 in_class class.Bare b = is_bare b
-in_class class.Digit b = is_digit b
-in_class class.SmallOrDigit b = is_small_or_digit b
-in_class class.SimpleCategory b = is_category_byte b
 in_class class.Quotable b = is_quotable b
 
 abbrev pub assigned : Assignment → Assigned

@@ -1,7 +1,7 @@
-ghost use Rattle.std.specs.Prelude.{◌≡◌, ◌-◌, ◌<◌, ◌^◌, map, length, codes};
+ghost use Rattle.std.specs.Prelude.{◌≡◌, ◌-◌, ◌<◌, ◌^◌, map, length};
 ghost use Rattle.std.specs.Option.{option_copied};
 ghost use Rattle.eb_bytes.specs.Text.{lines};
-ghost use Rattle.egencache.specs.Assignments.{bad_line, assignments_of, variable, is_text as is_text_of, is_eapi as is_eapi_text, is_plain_assignment as is_plain_assignment_of};
+ghost use Rattle.egencache.specs.Assignments.{assignments_of, bad_line, variable};
 ghost use Rattle.egencache.specs.Seen.{assigned};
 ghost use Rattle.egencache.specs.Tells.{TellsAssignments};
 
@@ -36,23 +36,6 @@ impl<T: Drop> From<AllocFailed<T>> for PlainErr {
     }
 }
 
-fn is_eapi(text: &[u8]) -> bool
-    ensures { result ≡ is_eapi_text text.now }
-{
-    matches!(text, [b'0'..=b'8'])
-}
-
-// Whether an assignment is plain: EAPI is assigned only before all else, and only one digit.
-fn is_plain_assignment(is_first: bool, name: &[u8], value: &[u8]) -> bool
-    ensures { result ≡ is_plain_assignment_of is_first name.now value.now }
-{
-    if name == b"EAPI".as_slice() {
-        is_first && is_eapi(value)
-    } else {
-        true
-    }
-}
-
 /// The assignments of a text of plain lines, in order.
 ///
 /// # Errors
@@ -62,17 +45,13 @@ pub fn read_assignments(alloc: Global, text: &[u8]) -> Result<Vec<Assignment<'_>
     ensures { TellsAssignments (λ list. map assigned list.items) result (bad_line text.now) (assignments_of (lines text.now)) }
 {
     let mut list = Vec::new(alloc);
-    let mut is_first = true;
     let mut number = 0;
     for line in Lines::new(text) {
         number += 1;
         match read_line(line) {
             Line::Nothing => {}
-            Line::Assigns(name, value) if is_plain_assignment(is_first, name, value) => {
-                list.push(Assignment { name, value })?;
-                is_first = false;
-            }
-            _ => return Err(PlainErr::NotPlain(number)),
+            Line::Assigns(name, value) => list.push(Assignment { name, value })?,
+            Line::Other => return Err(PlainErr::NotPlain(number)),
         }
     }
     Ok(list)

@@ -1,9 +1,73 @@
+ghost use Rattle.std.specs.Prelude.{◌≡◌, ◌++◌, OnOk};
+ghost use Rattle.egencache.specs.Faults.{fault_text, mismatch_text, shown};
+
+use eb_bytes::{Bytes, Memory, decimal, join_words};
+use ebuild_names::NameKind;
+use std::alloc::Global;
+
 /// Why an ebuild has no entry.
-#[derive(Clone, Copy, Debug, PartialEq, Eq)]
+#[derive(Debug, Drop)]
 pub enum Fault {
-    /// The text cannot be read yet: the number of its first line that is not plain, or 0 where the file is too large
-    /// or its path is not simple.
+    /// The first part of its place that is no such name.
+    NameBad(NameKind),
+    /// The text cannot be read yet: the number of its first line that is not plain, or 0 where the file is too large.
     FormNotYet(u32),
+    /// The EAPI that the text names is none of 0 to 8: that text.
+    EapiUnknown(Bytes),
+    /// The EAPI that the text names, and another one that the variable EAPI has after the run.
+    EapiMismatch(Bytes, Bytes),
     /// SLOT has no word.
     SlotMissing,
+}
+
+// Puts a text as a report shows it at the end: its words joined by one blank, or a hyphen where it has none.
+fn append_shown(alloc: Global, to: &mut Bytes, text: &[u8]) -> Result<(), Memory>
+    ensures { OnOk result (to.new ≡ to.old ++ shown text.now) }
+{
+    let words = join_words(alloc, text)?;
+    if words.is_empty() {
+        to.extend(b"-")?;
+    } else {
+        to.extend(words.as_slice())?;
+    }
+    Ok(())
+}
+
+/// Puts a fault's text at the end: its name, and each of its fields after one blank.
+///
+/// # Errors
+/// `Memory` where there is no room for it; some first bytes of it may have been put then.
+pub fn append_fault(alloc: Global, to: &mut Bytes, fault: &Fault) -> Result<(), Memory>
+    ensures { OnOk result (to.new ≡ to.old ++ fault_text fault.now) }
+{
+    match fault {
+        Fault::NameBad(kind) => {
+            to.extend(b"NameBad ")?;
+            to.extend(kind.name())?;
+        }
+        Fault::FormNotYet(line) => {
+            let number = decimal(alloc, u64::from(*line))?;
+            to.extend(b"FormNotYet ")?;
+            to.extend(number.as_slice())?;
+        }
+        Fault::EapiUnknown(text) => {
+            to.extend(b"EapiUnknown ")?;
+            append_shown(alloc, to, text.as_slice())?;
+        }
+        Fault::EapiMismatch(parsed, found) => {
+            append_mismatch(alloc, to, parsed.as_slice(), found.as_slice())?;
+        }
+        Fault::SlotMissing => to.extend(b"SlotMissing")?,
+    }
+    Ok(())
+}
+
+fn append_mismatch(alloc: Global, to: &mut Bytes, parsed: &[u8], found: &[u8]) -> Result<(), Memory>
+    ensures { OnOk result (to.new ≡ to.old ++ mismatch_text parsed.now found.now) }
+{
+    to.extend(b"EapiMismatch ")?;
+    append_shown(alloc, to, parsed)?;
+    to.extend(b" ")?;
+    append_shown(alloc, to, found)?;
+    Ok(())
 }

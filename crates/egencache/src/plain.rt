@@ -15,21 +15,15 @@ pub enum Line<'a> {
     Other,
 }
 
-/// The bytes that a part of a plain line is made of.
+// The bytes that a part of a plain line is made of.
 #[derive(Clone, Copy)]
-pub enum Class {
+enum Class {
     /// Blank and tab.
     Blank,
     /// Letters, digits and the underscore.
     NameByte,
     /// Letters, digits and `+_.:/@-`.
     Bare,
-    /// The digits 0 to 9.
-    Digit,
-    /// Small letters and digits.
-    SmallOrDigit,
-    /// Small letters, digits and the hyphen.
-    SimpleCategory,
     /// All but the double quote, `$`, the backquote, the backslash and byte 0.
     Quotable,
 }
@@ -45,9 +39,6 @@ impl Class {
                 matches!(byte, b'A'..=b'Z' | b'a'..=b'z' | b'0'..=b'9')
                     || matches!(byte, b'+' | b'_' | b'.' | b':' | b'/' | b'@' | b'-')
             }
-            Class::Digit => byte.is_ascii_digit(),
-            Class::SmallOrDigit => matches!(byte, b'a'..=b'z' | b'0'..=b'9'),
-            Class::SimpleCategory => matches!(byte, b'a'..=b'z' | b'0'..=b'9' | b'-'),
             Class::Quotable => !matches!(byte, b'"' | b'$' | b'`' | b'\\' | 0),
         }
     }
@@ -70,16 +61,16 @@ fn run_len(class: Class, text: &[u8]) -> usize
     }
 }
 
-/// The longest run of bytes of the class at the front, and what stands behind it.
-pub fn split_run(class: Class, text: &[u8]) -> (&[u8], &[u8])
+// The longest run of bytes of the class at the front, and what stands behind it.
+fn split_run(class: Class, text: &[u8]) -> (&[u8], &[u8])
     ensures run { result.0.now ≡ take_while (in_class class) text.now }
     ensures rest { result.1.now ≡ after_while (in_class class) text.now }
 {
     text.split_at(run_len(class, text))
 }
 
-/// Whether all the bytes are of the class.
-pub fn is_all(class: Class, text: &[u8]) -> bool
+// Whether all the bytes are of the class.
+fn is_all(class: Class, text: &[u8]) -> bool
     ensures { result ≡ list_all (in_class class) text.now }
 {
     text.iter().all(|byte| class.has(*byte))

@@ -1,17 +1,20 @@
-ghost use Rattle.std.specs.Prelude.{◌≡◌, ◌++◌, ◌+◌, ◌≤◌, length, IfOk, OnOk};
+ghost use Rattle.std.specs.Prelude.{◌≡◌, ◌+◌, ◌<◌, ◌≤◌, length, IfOk, OnOk, Some};
 ghost use Rattle.std.specs.FinMap as map;
 ghost use Rattle.eb_files.specs.Causes.{HasCause};
 ghost use Rattle.eb_files.specs.Files.{Files};
 ghost use Rattle.egencache.specs.Placed.{requested};
-ghost use Rattle.egencache.specs.Report.{absent_text, fail_text, fault_text, file_answer, outcome_status, outcome_text};
+ghost use Rattle.eb_bytes.specs.Text.{Text};
+ghost use Rattle.ebuild_names.specs.BadKind.{bad_kind as bad_kind_of};
+ghost use Rattle.egencache.specs.Report.{absent_text, fail_text, file_answer, outcome_status, outcome_text};
 ghost use Rattle.egencache.specs.Answered.{IsFileFault, IsReportStatus, TellsReport};
 
-use crate::fault::Fault;
+use crate::fault::{Fault, append_fault};
 use crate::request::Request;
 use crate::source::{Outcome, source_text};
 use crate::status::Status;
-use eb_bytes::{Bytes, Memory, Steps, decimal};
+use eb_bytes::{Bytes, Memory, Steps};
 use eb_files::{Tree, TreeErr};
+use ebuild_names::{EbuildPath, NameErr, NameKind, read_path};
 use md5_cache::write_entry;
 use std::alloc::Global;
 use std::sync::ledger::Ledger;
@@ -45,27 +48,9 @@ impl From<Memory> for ReportErr {
     }
 }
 
-// Puts a fault's text at the end.
-fn append_fault(alloc: Global, text: &mut Bytes, fault: Fault) -> Result<(), Memory>
-    ensures { OnOk result (text.new ≡ text.old ++ fault_text fault) }
-{
-    match fault {
-        Fault::FormNotYet(line) => {
-            let number = decimal(alloc, u64::from(line))?;
-            text.extend(b"FormNotYet ")?;
-            text.extend(number.as_slice())?;
-            Ok(())
-        }
-        Fault::SlotMissing => {
-            text.extend(b"SlotMissing")?;
-            Ok(())
-        }
-    }
-}
-
 // The line that says why an ebuild has no entry.
-fn fail_line(alloc: Global, at: &[u8], fault: Fault) -> Result<Bytes, Memory>
-    ensures { IfOk result (λ text. text ≡ fail_text at.now fault) }
+fn fail_line(alloc: Global, at: &[u8], fault: &Fault) -> Result<Bytes, Memory>
+    ensures { IfOk result (λ text. text ≡ fail_text at.now fault.now) }
 {
     let mut text = Bytes::from_slice(alloc, b"fail ")?;
     text.extend(at)?;
@@ -85,9 +70,9 @@ fn absent_line(alloc: Global, at: &[u8]) -> Result<Bytes, Memory>
     Ok(text)
 }
 
-fn fault_report(alloc: Global, at: &[u8], fault: Fault) -> Result<Report, Memory>
+fn fault_report(alloc: Global, at: &[u8], fault: &Fault) -> Result<Report, Memory>
     ensures status { IfOk result (λ report. report.status ≡ Status.SomeFailed) }
-    ensures text { IfOk result (λ report. report.text ≡ fail_text at.now fault) }
+    ensures text { IfOk result (λ report. report.text ≡ fail_text at.now fault.now) }
 {
     Ok(Report {
         status: Status::SomeFailed,
@@ -104,7 +89,18 @@ fn outcome_report(alloc: Global, at: &[u8], outcome: &Outcome) -> Result<Report,
             status: Status::Done,
             text: write_entry(alloc, entry)?,
         }),
-        Outcome::Fault(fault) => fault_report(alloc, at, *fault),
+        Outcome::Fault(fault) => fault_report(alloc, at, fault),
+    }
+}
+
+// The first part of the place that is no such name, if there is one.
+fn bad_kind(alloc: Global, place: &EbuildPath) -> Result<Option<NameKind>, Memory>
+    ensures { IfOk result (λ kind. kind ≡ bad_kind_of place.now) }
+{
+    match read_path(alloc, place) {
+        Ok(_) => Ok(None),
+        Err(NameErr::Bad(kind)) => Ok(Some(kind)),
+        Err(NameErr::Memory) => Err(Memory),
     }
 }
 
@@ -122,11 +118,23 @@ fn file_report<L: Ledger>(
     ensures at_least { steps.old ≤ steps.new }
     ensures at_most { steps.new ≤ steps.old + (file_answer (requested request.now) (Some text.now)).steps }
 {
-    if !request.place.is_simple() {
-        return fault_report(alloc, request.at, Fault::FormNotYet(0));
+    if let Some(kind) = bad_kind(alloc, &request.place)? {
+        return fault_report(alloc, request.at, &Fault::NameBad(kind));
     }
     let outcome = source_text(alloc, text, steps)?;
     outcome_report(alloc, request.at, &outcome)
+}
+
+// The report on an ebuild whose file is too large.
+fn large_report(alloc: Global, request: &Request<'_>) -> Result<Report, Memory>
+    ensures status { IfOk result (λ report. report.status ≡ Status.SomeFailed) }
+    ensures told { IfOk result (λ report. (text : Text) → MAX_EBUILD < length text → report.text ≡ (file_answer (requested request.now) (Some text)).text) }
+{
+    let fault = match bad_kind(alloc, &request.place)? {
+        Some(kind) => Fault::NameBad(kind),
+        None => Fault::FormNotYet(0),
+    };
+    fault_report(alloc, request.at, &fault)
 }
 
 /// The report on the ebuild that was asked for. `steps` takes the steps of its run.
@@ -151,7 +159,7 @@ pub fn print_report<T: Tree, L: Ledger>(
             text: absent_line(alloc, request.at)?,
         }),
         Ok(Some(text)) => Ok(file_report(alloc, request, text.as_slice(), steps)?),
-        Err(TreeErr::TooLarge) => Ok(fault_report(alloc, request.at, Fault::FormNotYet(0))?),
+        Err(TreeErr::TooLarge) => Ok(large_report(alloc, request)?),
         Err(TreeErr::Failed) => Err(ReportErr::FileFault),
         Err(TreeErr::Memory) => Err(ReportErr::Memory),
     }

@@ -1,23 +1,21 @@
-ghost use Rattle.std.specs.Prelude.{◌≡◌, ◌∷◌, [], ◌&&◌, nat_eq, codes, position, MatchOption, IfOk};
-ghost use Rattle.eb_bytes.specs.Text.{has_bytes};
-ghost use Rattle.std.specs.List.{ends_with, slice_split};
+ghost use Rattle.std.specs.Prelude.{◌≡◌, ◌∷◌, [], position, MatchOption, IfOk};
+ghost use Rattle.std.specs.List.{slice_split};
 ghost use Rattle.std.specs.Option.{option_map};
 ghost use Rattle.eb_files.specs.Paths.{is_slash, path_of};
-ghost use Rattle.egencache.specs.Request.{place_of, as_place as as_place_of, is_simple as is_simple_place, is_simple_category as is_simple_category_text, is_simple_package as is_simple_package_text, is_simple_version as is_simple_version_text, is_simple_file as is_simple_file_text, request_of, asked_at};
-ghost use Rattle.egencache.specs.Assignments.{is_text};
+ghost use Rattle.egencache.specs.Request.{as_place, asked_at, place_of, request_of};
 ghost use Rattle.egencache.specs.Placed.{placed, requested};
 
-use crate::plain::{Class, is_all, split_run};
 use eb_bytes::{Bytes, Memory};
 use eb_files::Path;
+use ebuild_names::EbuildPath;
 use std::alloc::Global;
 
-/// Where an ebuild is in its repository: its category, its package's name and its file's name.
+// The three parts of `CAT/PN/FILE`.
 #[derive(Clone, Copy)]
-pub struct Place<'a> {
-    pub category: &'a [u8],
-    pub name: &'a [u8],
-    pub file: &'a [u8],
+struct Parts<'a> {
+    category: &'a [u8],
+    name: &'a [u8],
+    file: &'a [u8],
 }
 
 /// One ebuild of a repository: the path of its file, and its place, also as it was written.
@@ -25,7 +23,7 @@ pub struct Place<'a> {
 pub struct Request<'a> {
     pub path: Path,
     pub at: &'a [u8],
-    pub place: Place<'a>,
+    pub place: EbuildPath,
 }
 
 // The place of the first slash.
@@ -45,12 +43,12 @@ fn split_slash(text: &[u8]) -> Option<(&[u8], &[u8])>
     }
 }
 
-// The place of these three parts, where none is empty and the last ends in `.ebuild`.
-fn as_place<'a>(category: &'a [u8], name: &'a [u8], file: &'a [u8]) -> Option<Place<'a>>
-    ensures { option_map placed result ≡ as_place_of category.now name.now file.now }
+// These three parts, where none is empty and the last ends in `.ebuild`.
+fn as_parts<'a>(category: &'a [u8], name: &'a [u8], file: &'a [u8]) -> Option<Parts<'a>>
+    ensures { option_map placed result ≡ as_place category.now name.now file.now }
 {
     match (category, name, file) {
-        ([_, ..], [_, ..], [_, ..]) if file.ends_with(b".ebuild") => Some(Place {
+        ([_, ..], [_, ..], [_, ..]) if file.ends_with(b".ebuild") => Some(Parts {
             category,
             name,
             file,
@@ -59,10 +57,10 @@ fn as_place<'a>(category: &'a [u8], name: &'a [u8], file: &'a [u8]) -> Option<Pl
     }
 }
 
-impl<'a> Place<'a> {
-    /// The place that `CAT/PN/FILE` names; none where the text has not exactly two slashes, where a part of it is
-    /// empty, or where it does not end in `.ebuild`.
-    pub fn read(at: &'a [u8]) -> Option<Place<'a>>
+impl<'a> Parts<'a> {
+    // The parts of `CAT/PN/FILE`; none where the text has not exactly two slashes, where a part of it is
+    // empty, or where it does not end in `.ebuild`.
+    fn read(at: &'a [u8]) -> Option<Parts<'a>>
         ensures { option_map placed result ≡ place_of at.now }
     {
         let Some((category, rest)) = split_slash(at) else {
@@ -73,69 +71,23 @@ impl<'a> Place<'a> {
         };
         match split_slash(file) {
             Some(_) => None,
-            None => as_place(category, name, file),
+            None => as_parts(category, name, file),
         }
     }
-
-    /// Whether the place is a simple one: the category is a small letter and small letters, digits and hyphens, the
-    /// package a small letter and small letters and digits, the file the package, a hyphen, digits and `.ebuild`.
-    pub fn is_simple(&self) -> bool
-        ensures { result ≡ is_simple_place (placed self.now) }
-    {
-        is_simple_category(self.category)
-            && is_simple_package(self.name)
-            && is_simple_file(self.name, self.file)
-    }
 }
 
-fn is_simple_category(text: &[u8]) -> bool
-    ensures { result ≡ is_simple_category_text text.now }
+// The place that `CAT/PN/FILE` names, if it names one.
+fn read_place(alloc: Global, at: &[u8]) -> Result<Option<EbuildPath>, Memory>
+    ensures { IfOk result (λ place. place ≡ place_of at.now) }
 {
-    match text {
-        [b'a'..=b'z', rest @ ..] => is_all(Class::SimpleCategory, rest),
-        _ => false,
-    }
-}
-
-fn is_simple_package(text: &[u8]) -> bool
-    ensures { result ≡ is_simple_package_text text.now }
-{
-    match text {
-        [b'a'..=b'z', rest @ ..] => is_all(Class::SmallOrDigit, rest),
-        _ => false,
-    }
-}
-
-// Whether digits stand before `.ebuild`, and nothing else.
-fn ends_version(digits: &[u8], end: &[u8]) -> bool
-    ensures { result ≡ (has_bytes digits.now && is_text end.now (codes ".ebuild")) }
-{
-    match digits {
-        [] => false,
-        [_, ..] => end == b".ebuild".as_slice(),
-    }
-}
-
-// A hyphen, digits and `.ebuild`.
-fn is_simple_version(text: &[u8]) -> bool
-    ensures { result ≡ is_simple_version_text text.now }
-{
-    match text {
-        [b'-', rest @ ..] => {
-            let (digits, end) = split_run(Class::Digit, rest);
-            ends_version(digits, end)
-        }
-        _ => false,
-    }
-}
-
-fn is_simple_file(name: &[u8], file: &[u8]) -> bool
-    ensures { result ≡ is_simple_file_text name.now file.now }
-{
-    match file.strip_prefix(name) {
-        Some(rest) => is_simple_version(rest),
-        None => false,
-    }
+    let Some(parts) = Parts::read(at) else {
+        return Ok(None);
+    };
+    Ok(Some(EbuildPath {
+        category: Bytes::from_slice(alloc, parts.category)?,
+        package: Bytes::from_slice(alloc, parts.name)?,
+        file: Bytes::from_slice(alloc, parts.file)?,
+    }))
 }
 
 /// What the words ask for; none where they are not `print REPO CAT/PN/FILE`, where REPO is empty without the slashes
@@ -167,7 +119,7 @@ fn read_below<'a>(
     if at.contains(&0) {
         return Ok(None);
     }
-    let Some(place) = Place::read(at) else {
+    let Some(place) = read_place(alloc, at)? else {
         return Ok(None);
     };
     let path = root.join(at)?;

@@ -1,14 +1,16 @@
-ghost use Rattle.std.specs.Prelude.{◌≡◌, ◌+◌, ◌-◌, ◌<◌, ◌≤◌, ◌^◌, map, length, sum_by, IfOk, OnOk};
+ghost use Rattle.std.specs.Prelude.{◌≡◌, ◌+◌, ◌-◌, ◌<◌, ◌≤◌, ◌^◌, map, length, sum_by, IfOk, OnOk, Some};
 ghost use Rattle.std.specs.List.{AllByRecursion};
 ghost use Rattle.std.specs.Option.{option_copied};
 ghost use Rattle.eb_bytes.specs.Text.{lines};
 ghost use Rattle.egencache.specs.Assignments.{Assigned, assignments_of, text_of as text_of_variable};
-ghost use Rattle.egencache.specs.Meaning.{ebuild_eapi, rdepend_of, final_value as final_value_of, final_values as final_values_of, assignment_steps, run_steps, reading_steps, has_implicit_rdepend as has_implicit_rdepend_text, sourced, outcome_of, HasZeroFreeValue, IsEapi};
+ghost use Rattle.egencache.specs.Meaning.{HasZeroFreeValue, agreed_outcome, assignment_steps, final_value as final_value_of, final_values as final_values_of, found_eapi, has_implicit_rdepend as has_implicit_rdepend_in, outcome_of, rdepend_of, reading_steps, run_steps, sourced, sourced_in};
+ghost use Rattle.eapi_tables.specs.TextEapi.{text_eapi};
+ghost use Rattle.md5_cache.specs.Entry.{named_eapi};
 ghost use Rattle.egencache.specs.Seen.{assigned};
 
 use crate::assignments::{Assignment, PlainErr, read_assignments, variable};
 use crate::fault::Fault;
-use eapi_tables::Key;
+use eapi_tables::{Eapi, Key, eapi_line};
 use eb_bytes::{Bytes, Memory, Steps};
 use eb_digest::digest_of;
 use md5_cache::{Entry, EntryErr};
@@ -32,32 +34,30 @@ fn text_of<'a>(assignments: &[Assignment<'a>], name: &[u8]) -> &'a [u8]
     }
 }
 
-fn eapi_of<'a>(assignments: &[Assignment<'a>]) -> &'a [u8]
-    ensures { result.now ≡ ebuild_eapi (map assigned assignments.now) }
+// The variable EAPI after the run; an unset or empty one counts as `0`.
+fn found_eapi<'a>(assignments: &[Assignment<'a>]) -> &'a [u8]
+    ensures { result.now ≡ found_eapi (map assigned assignments.now) }
 {
     match variable(assignments, b"EAPI") {
+        None | Some([]) => b"0",
         Some(value) => value,
-        None => b"0",
     }
 }
 
 // Whether an unset RDEPEND is DEPEND: in EAPI 0 to 3 (Package Manager Specification, "RDEPEND value").
-fn has_implicit_rdepend(eapi: &[u8]) -> bool
-    ensures { result ≡ has_implicit_rdepend_text eapi.now }
+fn has_implicit_rdepend(eapi: Eapi) -> bool
+    ensures { result ≡ has_implicit_rdepend_in eapi }
 {
-    match eapi {
-        [digit, ..] => *digit <= b'3',
-        [] => false,
-    }
+    matches!(eapi, Eapi::E0 | Eapi::E1 | Eapi::E2 | Eapi::E3)
 }
 
-fn rdepend_of<'a>(assignments: &[Assignment<'a>]) -> &'a [u8]
-    ensures { result.now ≡ rdepend_of (map assigned assignments.now) }
+fn rdepend_of<'a>(eapi: Eapi, assignments: &[Assignment<'a>]) -> &'a [u8]
+    ensures { result.now ≡ rdepend_of eapi (map assigned assignments.now) }
 {
     match variable(assignments, b"RDEPEND") {
         Some(value) => value,
         None => {
-            if has_implicit_rdepend(eapi_of(assignments)) {
+            if has_implicit_rdepend(eapi) {
                 text_of(assignments, b"DEPEND")
             } else {
                 b""
@@ -67,24 +67,28 @@ fn rdepend_of<'a>(assignments: &[Assignment<'a>]) -> &'a [u8]
 }
 
 // The value of a key after the run.
-fn final_value<'a>(assignments: &[Assignment<'a>], key: Key) -> &'a [u8]
-    ensures { result.now ≡ final_value_of (map assigned assignments.now) key }
+fn final_value<'a>(eapi: Eapi, assignments: &[Assignment<'a>], key: Key) -> &'a [u8]
+    ensures { result.now ≡ final_value_of eapi (map assigned assignments.now) key }
 {
     match key {
-        Key::Eapi => eapi_of(assignments),
+        Key::Eapi => eapi.text(),
         Key::DefinedPhases => b"-",
         Key::Inherit => b"",
-        Key::Rdepend => rdepend_of(assignments),
+        Key::Rdepend => rdepend_of(eapi, assignments),
         _ => text_of(assignments, key.name()),
     }
 }
 
-fn final_values(alloc: Global, assignments: &[Assignment<'_>]) -> Result<Vec<(Key, Bytes)>, Memory>
-    ensures { IfOk result (λ values. values.items ≡ final_values_of (map assigned assignments.now)) }
+fn final_values(
+    alloc: Global,
+    eapi: Eapi,
+    assignments: &[Assignment<'_>],
+) -> Result<Vec<(Key, Bytes)>, Memory>
+    ensures { IfOk result (λ values. values.items ≡ final_values_of eapi (map assigned assignments.now)) }
 {
     let mut values = Vec::new(alloc);
     for key in Key::ALL {
-        let value = Bytes::from_slice(alloc, final_value(assignments, key))?;
+        let value = Bytes::from_slice(alloc, final_value(eapi, assignments, key))?;
         values.push((key, value))?;
     }
     Ok(values)
@@ -100,13 +104,17 @@ fn take_steps<L: Ledger>(text: &[u8], assignments: &[Assignment<'_>], steps: &mu
     }
 }
 
-// The outcome of a run that ended with these assignments.
-fn outcome_of(alloc: Global, text: &[u8], assignments: &[Assignment<'_>]) -> Result<Outcome, Memory>
-    requires no_zero { AllByRecursion HasZeroFreeValue (map assigned assignments.now) }
-    requires eapi { IsEapi (ebuild_eapi (map assigned assignments.now)) }
-    ensures { IfOk result (λ outcome. outcome ≡ outcome_of text.now (map assigned assignments.now)) }
+// The outcome of a run whose variable EAPI is the one that the text names.
+fn agreed_outcome(
+    alloc: Global,
+    text: &[u8],
+    eapi: Eapi,
+    assignments: &[Assignment<'_>],
+) -> Result<Outcome, Memory>
+    requires { AllByRecursion HasZeroFreeValue (map assigned assignments.now) }
+    ensures { IfOk result (λ outcome. outcome ≡ agreed_outcome text.now eapi (map assigned assignments.now)) }
 {
-    let values = final_values(alloc, assignments)?;
+    let values = final_values(alloc, eapi, assignments)?;
     match Entry::new(alloc, values, Vec::new(alloc), digest_of(text)) {
         Ok(entry) => Ok(Outcome::Entry(entry)),
         Err(EntryErr::Incomplete) => Ok(Outcome::Fault(Fault::SlotMissing)),
@@ -114,7 +122,57 @@ fn outcome_of(alloc: Global, text: &[u8], assignments: &[Assignment<'_>]) -> Res
     }
 }
 
-/// What an ebuild of this text gives. `steps` takes the steps of its run, and none where the text cannot be read.
+// The outcome of a run that ended with these assignments.
+fn outcome_of(
+    alloc: Global,
+    text: &[u8],
+    eapi: Eapi,
+    assignments: &[Assignment<'_>],
+) -> Result<Outcome, Memory>
+    requires { AllByRecursion HasZeroFreeValue (map assigned assignments.now) }
+    ensures { IfOk result (λ outcome. outcome ≡ outcome_of text.now eapi (map assigned assignments.now)) }
+{
+    let found = found_eapi(assignments);
+    if found == eapi.text() {
+        agreed_outcome(alloc, text, eapi, assignments)
+    } else {
+        let parsed = Bytes::from_slice(alloc, eapi.text())?;
+        let found = Bytes::from_slice(alloc, found)?;
+        Ok(Outcome::Fault(Fault::EapiMismatch(parsed, found)))
+    }
+}
+
+// What an ebuild of this text gives, which names this EAPI.
+fn source_in<L: Ledger>(
+    alloc: Global,
+    text: &[u8],
+    eapi: Eapi,
+    steps: &mut Steps<L>,
+) -> Result<Outcome, Memory>
+    requires { length text.now < 2 ^ 32 - 1 }
+    ensures outcome { IfOk result (λ outcome. outcome ≡ (sourced_in (Some eapi) text.now).outcome) }
+    ensures steps { OnOk result (steps.new ≡ steps.old + (sourced_in (Some eapi) text.now).steps) }
+    ensures at_least { steps.old ≤ steps.new }
+    ensures at_most { steps.new ≤ steps.old + (sourced_in (Some eapi) text.now).steps }
+{
+    let assignments = match read_assignments(alloc, text) {
+        Ok(assignments) => assignments,
+        Err(PlainErr::NotPlain(line)) => return Ok(Outcome::Fault(Fault::FormNotYet(line))),
+        Err(PlainErr::Memory) => return Err(Memory),
+    };
+    take_steps(text, assignments.as_slice(), steps);
+    outcome_of(alloc, text, eapi, assignments.as_slice())
+}
+
+// The EAPI that the text names, if it is a known one.
+fn eapi_of(text: &[u8]) -> Option<Eapi>
+    ensures { result ≡ named_eapi (text_eapi text.now) }
+{
+    Eapi::read(eapi_line(text)).ok()
+}
+
+/// What an ebuild of this text gives. `steps` takes the steps of its run, and none where the text is not run: where
+/// the EAPI that it names is not known, or a line cannot be read.
 ///
 /// # Errors
 /// `Memory` where there is not room enough; some or all of the steps may have been taken then.
@@ -129,11 +187,11 @@ pub fn source_text<L: Ledger>(
     ensures at_least { steps.old ≤ steps.new }
     ensures at_most { steps.new ≤ steps.old + (sourced text.now).steps }
 {
-    let assignments = match read_assignments(alloc, text) {
-        Ok(assignments) => assignments,
-        Err(PlainErr::NotPlain(line)) => return Ok(Outcome::Fault(Fault::FormNotYet(line))),
-        Err(PlainErr::Memory) => return Err(Memory),
-    };
-    take_steps(text, assignments.as_slice(), steps);
-    outcome_of(alloc, text, assignments.as_slice())
+    match eapi_of(text) {
+        Some(eapi) => source_in(alloc, text, eapi, steps),
+        None => {
+            let named = Bytes::from_slice(alloc, eapi_line(text))?;
+            Ok(Outcome::Fault(Fault::EapiUnknown(named)))
+        }
+    }
 }

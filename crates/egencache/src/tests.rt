@@ -22,7 +22,7 @@ const BASE_ENTRY: &[u8] =
     b"DEFINED_PHASES=-\nDESCRIPTION=a\nEAPI=8\nSLOT=0\n_md5_=eaf2046670819c95f99430fdbe38090a\n";
 
 // Texts, and their entries.
-const ENTRIES: [(&[u8], &[u8]); 22] = [
+const ENTRIES: [(&[u8], &[u8]); 28] = [
     (
         b"EAPI=7\n IUSE=\"x\"\nSLOT=0/2",
         b"DEFINED_PHASES=-\nEAPI=7\nIUSE=x\nSLOT=0/2\n_md5_=d8ae5709247c28f5e6a3ba8031404f44\n",
@@ -111,10 +111,34 @@ const ENTRIES: [(&[u8], &[u8]); 22] = [
         b"EAPI=8\nSRC_URI=\"a\"\nSLOT=\"b\"\nRESTRICT=\"c\"\nREQUIRED_USE=\"d\"\nRDEPEND=\"e\"\nPROPERTIES=\"f\"\nPDEPEND=\"g\"\nLICENSE=\"h\"\nKEYWORDS=\"i\"\nIUSE=\"j\"\nIDEPEND=\"k\"\nHOMEPAGE=\"l\"\nDESCRIPTION=\"m\"\nDEPEND=\"n\"\nBDEPEND=\"o\"\n",
         b"BDEPEND=o\nDEFINED_PHASES=-\nDEPEND=n\nDESCRIPTION=m\nEAPI=8\nHOMEPAGE=l\nIDEPEND=k\nIUSE=j\nKEYWORDS=i\nLICENSE=h\nPDEPEND=g\nPROPERTIES=f\nRDEPEND=e\nREQUIRED_USE=d\nRESTRICT=c\nSLOT=b\nSRC_URI=a\n_md5_=6526d4d0f8816cfdef96697042d720e7\n",
     ),
+    (
+        b"EAPI=8\nEAPI=8\nSLOT=0\n",
+        b"DEFINED_PHASES=-\nEAPI=8\nSLOT=0\n_md5_=4d7948f4a4412f3b2ad1de1bc606bbec\n",
+    ),
+    (
+        b"EAPI=\nSLOT=0\n",
+        b"DEFINED_PHASES=-\nEAPI=0\nSLOT=0\n_md5_=a372fcea19592210c399dcaba40ba108\n",
+    ),
+    (
+        b"EAPI=\"\"\nDEPEND=a/b\nSLOT=0\n",
+        b"DEFINED_PHASES=-\nDEPEND=a/b\nEAPI=0\nRDEPEND=a/b\nSLOT=0\n_md5_=a92596359f163239247d48e7fffe4695\n",
+    ),
+    (
+        b"SLOT=0\nEAPI=0\n",
+        b"DEFINED_PHASES=-\nEAPI=0\nSLOT=0\n_md5_=e6016d2ef9a8c061bc50fffdc479c651\n",
+    ),
+    (
+        b"SLOT=0\nEAPI=8\nEAPI=\n",
+        b"DEFINED_PHASES=-\nEAPI=0\nSLOT=0\n_md5_=646deb80b4a8972701a2c1ed72b1ffea\n",
+    ),
+    (
+        b"# c\n\n \tEAPI=\"8\"\t\nEAPI=7\nSLOT=0\nEAPI=\"8\"\n",
+        b"DEFINED_PHASES=-\nEAPI=8\nSLOT=0\n_md5_=f6bda370b41cca9af69e667a6553c4a5\n",
+    ),
 ];
 
 // Texts, and why they have no entry.
-const FAULTS: [(&[u8], &[u8]); 42] = [
+const FAULTS: [(&[u8], &[u8]); 59] = [
     (b"", b"SlotMissing"),
     (b"EAPI=8\n# SLOT=0\n", b"SlotMissing"),
     (b"SLOT=0\nSLOT=\"\"\n", b"SlotMissing"),
@@ -123,13 +147,36 @@ const FAULTS: [(&[u8], &[u8]); 42] = [
         b"EAPI=8\nDESCRIPTION=\"a\"\nSLOT=\"0\"\ninherit e\n",
         b"FormNotYet 4",
     ),
-    (b"EAPI=8\nEAPI=8\nSLOT=0\n", b"FormNotYet 2"),
-    (b"SLOT=0\nEAPI=8\n", b"FormNotYet 2"),
-    (b"EAPI=9\nSLOT=0\n", b"FormNotYet 1"),
-    (b"EAPI=\nSLOT=0\n", b"FormNotYet 1"),
-    (b"EAPI=10\nSLOT=0\n", b"FormNotYet 1"),
-    (b"EAPI=\"8 \"\nSLOT=0\n", b"FormNotYet 1"),
-    (b"EAPI=a\nSLOT=0\n", b"FormNotYet 1"),
+    (b"EAPI=9\nSLOT=0\n", b"EapiUnknown 9"),
+    (b"EAPI=9", b"EapiUnknown 9"),
+    (b"EAPI=10\nSLOT=0\n", b"EapiUnknown 10"),
+    (b"EAPI=08\nSLOT=0\n", b"EapiUnknown 08"),
+    (b"EAPI=a\nSLOT=0\n", b"EapiUnknown a"),
+    (
+        b"EAPI=5-progress+_.\nSLOT=0\n",
+        b"EapiUnknown 5-progress+_.",
+    ),
+    (b"EAPI='9'\nSLOT=0\n", b"EapiUnknown 9"),
+    (b"EAPI=\"9\" # c\nSLOT=0\n", b"EapiUnknown 9"),
+    (b"\n# EAPI=8\n\t EAPI=9 \t\nif\n", b"EapiUnknown 9"),
+    (b"EAPI=\"8\"\nSLOT=0\nEAPI=7\n", b"EapiMismatch 8 7"),
+    (b"EAPI=8\nEAPI=7\n", b"EapiMismatch 8 7"),
+    (
+        b"EAPI=8\nEAPI=9\nEAPI=8\nEAPI=9\nSLOT=0\n",
+        b"EapiMismatch 8 9",
+    ),
+    (b"EAPI=8\nEAPI=\nSLOT=0\n", b"EapiMismatch 8 0"),
+    (b"EAPI=8\nEAPI=\" \"\nSLOT=0\n", b"EapiMismatch 8 -"),
+    (b"EAPI=8\nEAPI=\" 7\t8 \"\nSLOT=0\n", b"EapiMismatch 8 7 8"),
+    (b"EAPI=8\nEAPI=\"8 \"\nSLOT=0\n", b"EapiMismatch 8 8"),
+    (b"SLOT=0\nEAPI=8\n", b"EapiMismatch 0 8"),
+    (b"EAPI=\"8 \"\nSLOT=0\n", b"EapiMismatch 0 8"),
+    (b"EAPI=\"8\nSLOT=0\n", b"FormNotYet 1"),
+    (b"EAPI='8'\nSLOT=0\n", b"FormNotYet 1"),
+    (b"EAPI='8\"\nSLOT=0\n", b"FormNotYet 1"),
+    (b"EAPI=8 # c\nSLOT=0\n", b"FormNotYet 1"),
+    (b"EAPI=8#c\nSLOT=0\n", b"FormNotYet 1"),
+    (b"EAPI=8\nEAPI=7\nif\n", b"FormNotYet 3"),
     (b"EAPI=8\r\nSLOT=0\n", b"FormNotYet 1"),
     (b"DESCRIPTION=\"a\nSLOT=0\n", b"FormNotYet 1"),
     (b"x = 1\nSLOT=0\n", b"FormNotYet 1"),
@@ -199,38 +246,52 @@ const ROOTS: [&[u8]; 3] = [
     b"print /r/// c/a/a-1.ebuild",
 ];
 
-// Places that are simple.
-const SIMPLE: [&[u8]; 3] = [
+// Places that an ebuild may have.
+const PLACES: [&[u8]; 10] = [
     b"c/a/a-1.ebuild",
+    b"C/a/a-1.ebuild",
     b"c1-d-/ab2/ab2-20.ebuild",
-    b"z/z/z-09.ebuild",
+    b"c/a-b/a-b-1.2.ebuild",
+    b"c/a/a-1-r1.ebuild",
+    b"c_c.d+e/A/A-1_rc2-r0.ebuild",
+    b"1/1/1-1.ebuild",
+    b"_/a-r1/a-r1-0b.ebuild",
+    b"c/a+/a+-1.ebuild",
+    b"c/_/_-1_p.ebuild",
 ];
 
-// Places that are not.
-const NOT_SIMPLE: [&[u8]; 17] = [
-    b"C/a/a-1.ebuild",
-    b"c/a-b/a-b-1.ebuild",
-    b"c/a/a-1.2.ebuild",
-    b"c/a/b-1.ebuild",
-    b"c/a/a-.ebuild",
-    b"c/a/.ebuild",
-    b"c/a/a.ebuild",
-    b"c/a/a1.ebuild",
-    b"c/a/a-1-r1.ebuild",
-    b"c/a/a-1.ebuild.ebuild",
-    b"c_c/a/a-1.ebuild",
-    b"1/a/a-1.ebuild",
-    b"-c/a/a-1.ebuild",
-    b"c/1/1-1.ebuild",
-    b"c/A/A-1.ebuild",
-    b"c/a/ab-1.ebuild",
-    b"c/ab/a-1.ebuild",
+// Places that an ebuild may not have, and the first part that is wrong.
+const BAD_PLACES: [(&[u8], &[u8]); 23] = [
+    (b"c/a-1/a-1-2.ebuild", b": NameBad package\n"),
+    (b"c/bar/foo-1.ebuild", b": NameBad file\n"),
+    (b"-c/a/a-1.ebuild", b": NameBad category\n"),
+    (b".c/a/a-1.ebuild", b": NameBad category\n"),
+    (b"+c/a/a-1.ebuild", b": NameBad category\n"),
+    (b"c:/a/a-1.ebuild", b": NameBad category\n"),
+    (b"-c/a-1/b.ebuild", b": NameBad category\n"),
+    (b"c/-a/-a-1.ebuild", b": NameBad package\n"),
+    (b"c/+a/+a-1.ebuild", b": NameBad package\n"),
+    (b"c/a.b/a.b-1.ebuild", b": NameBad package\n"),
+    (b"c/a-1-r1/a-1-r1-1.ebuild", b": NameBad package\n"),
+    (b"c/a-1b/b.ebuild", b": NameBad package\n"),
+    (b"c/a/b-1.ebuild", b": NameBad file\n"),
+    (b"c/a/a-.ebuild", b": NameBad file\n"),
+    (b"c/a/.ebuild", b": NameBad file\n"),
+    (b"c/a/a.ebuild", b": NameBad file\n"),
+    (b"c/a/a1.ebuild", b": NameBad file\n"),
+    (b"c/a/a-1.ebuild.ebuild", b": NameBad file\n"),
+    (b"c/a/ab-1.ebuild", b": NameBad file\n"),
+    (b"c/ab/a-1.ebuild", b": NameBad file\n"),
+    (b"c/a/a-1-r.ebuild", b": NameBad file\n"),
+    (b"c/a/a-1_x.ebuild", b": NameBad file\n"),
+    (b"c/a/a--1.ebuild", b": NameBad file\n"),
 ];
 
 // Places where no file is.
-const ABSENT: [&[u8]; 4] = [
+const ABSENT: [&[u8]; 5] = [
     b"c/a/a-1.ebuild",
     b"C/a/a-1.ebuild",
+    b"-c/a/a-1.ebuild",
     b"c/a/.ebuild",
     b"c/a/a-22.ebuild",
 ];
@@ -324,10 +385,11 @@ fn fails(alloc: Global, text: &[u8], why: &[u8]) -> Result<bool, Fail> {
     tells(alloc, PLACE, (PLACE, text), Status::SomeFailed, around)
 }
 
-// Whether a file of a comment of so many bytes has no entry, for this reason.
-fn comment_fails(alloc: Global, len: usize, why: &[u8]) -> Result<bool, Fail> {
-    let text = vec![in alloc; b'#'; len]?;
-    fails(alloc, &text, why)
+// Whether a file of this text and a comment, of so many bytes in all, has no entry, for this reason.
+fn long_fails(alloc: Global, first: &[u8], len: usize, why: &[u8]) -> Result<bool, Fail> {
+    let comment = vec![in alloc; b'#'; len.saturating_sub(first.len())]?;
+    let text = joined(alloc, &[first, &comment])?;
+    fails(alloc, text.as_slice(), why)
 }
 
 #[test]
@@ -347,8 +409,10 @@ fn says_why_there_is_no_entry(rt: HostRuntime) -> Result<(), Fail> {
     for (text, why) in FAULTS {
         assert!(rt; fails(alloc, text, why)?, "at {text:?}");
     }
-    assert!(rt; comment_fails(alloc, 1_048_576, b"SlotMissing")?);
-    assert!(rt; comment_fails(alloc, 1_048_577, b"FormNotYet 0")?);
+    assert!(rt; long_fails(alloc, b"", 1_048_576, b"SlotMissing")?);
+    assert!(rt; long_fails(alloc, b"", 1_048_577, b"FormNotYet 0")?);
+    assert!(rt; long_fails(alloc, b"EAPI=9\n", 1_048_576, b"EapiUnknown 9")?);
+    assert!(rt; long_fails(alloc, b"EAPI=9\n", 1_048_577, b"FormNotYet 0")?);
     Ok(())
 }
 
@@ -370,12 +434,11 @@ fn reads_words(rt: HostRuntime) -> Result<(), Fail> {
 fn tells_places_apart(rt: HostRuntime) -> Result<(), Fail> {
     let alloc = rt.alloc();
     let other = (b"c/a/a-2.ebuild".as_slice(), BASE);
-    let refused = (b"fail ".as_slice(), b": FormNotYet 0\n".as_slice());
     let absent = (
         b"egencache: repository: no such ebuild ".as_slice(),
         b"\n".as_slice(),
     );
-    for at in SIMPLE {
+    for at in PLACES {
         let words = joined(alloc, &[b"print /r ", at])?;
         let holds = answers(
             alloc,
@@ -386,10 +449,15 @@ fn tells_places_apart(rt: HostRuntime) -> Result<(), Fail> {
         )?;
         assert!(rt; holds, "at {at:?}");
     }
-    for at in NOT_SIMPLE {
-        let holds = tells(alloc, at, (at, BASE), Status::SomeFailed, refused)?;
+    for (at, why) in BAD_PLACES {
+        let around = (b"fail ".as_slice(), why);
+        let holds = tells(alloc, at, (at, BASE), Status::SomeFailed, around)?;
         assert!(rt; holds, "at {at:?}");
     }
+    let large = vec![in alloc; b'#'; 1_048_577]?;
+    let (at, why) = BAD_PLACES[0];
+    let around = (b"fail ".as_slice(), why);
+    assert!(rt; tells(alloc, at, (at, &large), Status::SomeFailed, around)?);
     for at in ABSENT {
         assert!(rt;
             tells(alloc, at, other, Status::RepoBad, absent)?,

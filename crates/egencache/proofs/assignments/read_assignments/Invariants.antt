@@ -7,7 +7,7 @@ use Rattle.egencache.proofs.assignments.read_assignments.Given as goal
 
 abbrev pub invariant-loop-line : goal.invariant-loop-line
 invariant-loop-line l = record {
-  bad : bad_line_from (l.number + 1) l.is_first (rest_lines l.line-iterator.rest) ≡ bad_line l.text;
+  bad : bad_line_from (l.number + 1) (rest_lines l.line-iterator.rest) ≡ bad_line l.text;
   list : map assigned l.list.items ++ assignments_of (rest_lines l.line-iterator.rest) ≡ assignments_of (lines l.text);
   count : l.number + length (rest_lines l.line-iterator.rest) ≤ length (lines l.text);
 }

@@ -4,7 +4,7 @@ use Rattle.eb_bytes.specs.Text.{Text}
 use Rattle.eb_files.specs.Paths.{is_slash}
 use Rattle.egencache.specs.Request.{place_of, place_of_parts}
 use Rattle.egencache.proofs.Cuts.{slice_split-some}
-use Rattle.egencache.proofs.request.Place.read.Goals as goal
+use Rattle.egencache.proofs.request.Parts.read.Goals as goal
 
 more_than_three : (category name file : Text) (parts : List Text) (first : Text) (more : List Text) → parts ≡ first ∷ more → place_of_parts (category ∷ name ∷ file ∷ parts) ≡ None
 more_than_three category name file parts first more e = rw e refl

@@ -2,31 +2,33 @@ use Rattle.std.proofs.Common.{◌≡◌, ◌<◌, Bool, true, false, ◌&&◌, c
 use Rattle.std.specs.List.{AllByRecursion}
 use Rattle.std.proofs.lemmas.List.Elements.{All-from_recursion}
 use Rattle.eb_bytes.specs.Text.{Text, has_bytes, norm}
-use Rattle.eapi_tables.specs.Key.{all_keys}
 use Rattle.md5_cache.specs.Entry.{EntryContent, HasNoZero, eapi_of, is_complete, kept_values}
 use Rattle.md5_cache.specs.Record.{IsRecordOf}
+use Rattle.eapi_tables.specs.declared.eapi.Eapi.{Eapi}
 use Rattle.eapi_tables.specs.declared.key.Key.{Key}
+use Rattle.eapi_tables.specs.Eapi.{eapi_text}
+use Rattle.eapi_tables.specs.Key.{all_keys}
 use Rattle.egencache.specs.declared.source.Outcome.{Outcome}
 use Rattle.egencache.specs.declared.source.Outcome.TheVariants as gives
 use Rattle.egencache.specs.Assignments.{Assigned, text_of}
-use Rattle.egencache.specs.Meaning.{HasZeroFreeValue, ebuild_eapi, ebuild_entry, final_value, final_values}
+use Rattle.egencache.specs.Meaning.{HasZeroFreeValue, ebuild_entry, final_value, final_values}
 use Rattle.egencache.specs.Seen.{assigned}
-use Rattle.egencache.proofs.PlainValues.{final_value-free, named_eapi-plain}
-use Rattle.egencache.proofs.source.outcome_of.Goals as goal
+use Rattle.egencache.proofs.PlainValues.{final_value-free, named_eapi-text}
+use Rattle.egencache.proofs.source.agreed_outcome.Goals as goal
 
-keys_free : (given : List Assigned) → AllByRecursion HasZeroFreeValue given → (ks : List Key) → AllByRecursion (λ (value : Key × Text). HasNoZero value.1) (map (λ k. (k, final_value given k)) ks)
-keys_free given h [] = tt
-keys_free given h (k ∷ ks) = (final_value-free given h k, keys_free given h ks)
+keys_free : (eapi : Eapi) (given : List Assigned) → AllByRecursion HasZeroFreeValue given → (ks : List Key) → AllByRecursion (λ (value : Key × Text). HasNoZero value.1) (map (λ k. (k, final_value eapi given k)) ks)
+keys_free eapi given h [] = tt
+keys_free eapi given h (k ∷ ks) = (final_value-free eapi given h k, keys_free eapi given h ks)
 
 pub new-requires-2-clause-no_zero : goal.new-requires-2-clause-no_zero
 new-requires-2-clause-no_zero c =
     let P : List (Key × Text) → Type 0 = λ values. All (λ (value : Key × Text). HasNoZero value.1) values in
-    subst P (sym c.in_ok-values.ensures) (All-from_recursion (λ (value : Key × Text). HasNoZero value.1) (final_values (map assigned c.args.assignments.now)) (keys_free (map assigned c.args.assignments.now) c.requires.no_zero all_keys))
+    subst P (sym c.in_ok-values.ensures) (All-from_recursion (λ (value : Key × Text). HasNoZero value.1) (final_values c.args.eapi (map assigned c.args.assignments.now)) (keys_free c.args.eapi (map assigned c.args.assignments.now) c.requires all_keys))
 
 pub new-requires-2-clause-eapi : goal.new-requires-2-clause-eapi
 new-requires-2-clause-eapi c = λ has.
     let P : List (Key × Text) → Type 0 = λ values. IsSome (eapi_of values) in
-    subst P (sym c.in_ok-values.ensures) (named_eapi-plain (ebuild_eapi (map assigned c.args.assignments.now)) c.requires.eapi)
+    subst P (sym c.in_ok-values.ensures) (named_eapi-text c.args.eapi)
 
 both_true : (v w : Bool) → IsTrue (v && (w && true)) → w ≡ true
 both_true true true h = refl
@@ -34,8 +36,8 @@ both_true true false h = cc
 both_true false w h = cc
 
 -- complete values have a word of SLOT
-slot_has_words : (given : List Assigned) → IsTrue (is_complete (final_values given)) → has_bytes (norm (text_of (codes "SLOT") given)) ≡ true
-slot_has_words given h = both_true (has_bytes (norm (ebuild_eapi given))) (has_bytes (norm (text_of (codes "SLOT") given))) h
+slot_has_words : (eapi : Eapi) (given : List Assigned) → IsTrue (is_complete (final_values eapi given)) → has_bytes (norm (text_of (codes "SLOT") given)) ≡ true
+slot_has_words eapi given h = both_true (has_bytes (norm (eapi_text eapi))) (has_bytes (norm (text_of (codes "SLOT") given))) h
 
 none_recorded : (read recorded : List (Text × Text)) → read ≡ [] → IsRecordOf read recorded → recorded ≡ []
 none_recorded read [] e h = refl
@@ -57,7 +59,7 @@ pub returns-in-Ok : goal.returns-in-Ok
 returns-in-Ok c =
     let given = map assigned c.args.assignments.now in
     let P : List (Key × Text) → Type 0 = λ values. IsTrue (is_complete values) in
-    let slot : has_bytes (norm (text_of (codes "SLOT") given)) ≡ true = slot_has_words given (subst P c.in_ok-values.ensures c.in-Ok.ensures.complete) in
-    let values : c.in-Ok.entry.values ≡ kept_values (final_values given) = c.in-Ok.ensures.values ∙ ap kept_values c.in_ok-values.ensures in
-    let entry : c.in-Ok.entry ≡ ebuild_entry c.args.text.now given = same_entry _ _ _ values (none_recorded _ _ c.new.ensures.items c.in-Ok.ensures.eclasses) (c.in-Ok.ensures.md5 ∙ c.digest_of.ensures) in
+    let slot : has_bytes (norm (text_of (codes "SLOT") given)) ≡ true = slot_has_words c.args.eapi given (subst P c.in_ok-values.ensures c.in-Ok.ensures.complete) in
+    let values : c.in-Ok.entry.values ≡ kept_values (final_values c.args.eapi given) = c.in-Ok.ensures.values ∙ ap kept_values c.in_ok-values.ensures in
+    let entry : c.in-Ok.entry ≡ ebuild_entry c.args.text.now c.args.eapi given = same_entry _ _ _ values (none_recorded _ _ c.new.ensures.items c.in-Ok.ensures.eclasses) (c.in-Ok.ensures.md5 ∙ c.digest_of.ensures) in
     ap (λ (e : EntryContent). gives.Entry e) entry ∙ chosen _ _ _ slot
