@@ -44,7 +44,6 @@ ended suffix t rest ok e =
 pub file_parts : (pn version : Text) → (pn ++ 45 ∷ version) ++ codes ".ebuild" ≡ pn ++ (45 ∷ (version ++ codes ".ebuild"))
 file_parts pn version = append_assoc pn (45 ∷ version) (codes ".ebuild")
 
-
 -- ---- the version that the name of a file has
 
 what_follows : (pn file behind : Text) (is : IsFileOf pn file) → file ≡ pn ++ behind → behind ≡ 45 ∷ (spelling is.version ++ codes ".ebuild")

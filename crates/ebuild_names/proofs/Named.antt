@@ -73,9 +73,10 @@ revision_behind category pn v well = on v.revision refl
     cut = (revision_cut v well).whole
 
     on : (revision : Option Text) → v.revision ≡ revision → let n = names_of category pn v in ((n.pf ≡ n.p) × (n.pr ≡ codes "r0")) ⊎ (n.pf ≡ n.p ++ 45 ∷ n.pr)
-    on None e = inl
-        (ap (with_version pn) (cut ∙ ap (λ (r : Option Text). spelling (without_revision v) ++ spelled_revision r) e ∙ append-nil (spelling (without_revision v))),
-        ap revision_name e)
+    on None e = inl (
+      ap (with_version pn) (cut ∙ ap (λ (r : Option Text). spelling (without_revision v) ++ spelled_revision r) e ∙ append-nil (spelling (without_revision v))),
+      ap revision_name e,
+    )
     on (Some digits) e = inr
         (ap (with_version pn) (cut ∙ ap (λ (r : Option Text). spelling (without_revision v) ++ spelled_revision r) e)
         ∙ sym (append_assoc pn (45 ∷ spelling (without_revision v)) (45 ∷ 114 ∷ digits))
