@@ -1,5 +1,5 @@
 -- What a path gives, and what it is wrong in.
-use Rattle.std.proofs.Common.{◌≡◌, true, false, Some, None, [], ◌∷◌, ◌++◌, refl, ap, sym, subst, ◌∙◌, append_assoc}
+use Rattle.std.proofs.Common.{◌≡◌, true, Some, None, ◌∷◌, ◌++◌, refl, ap, sym, subst, ◌∙◌, append_assoc}
 use Rattle.std.proofs.Common.{◌⊎◌, inl, inr}
 use Rattle.std.specs.Prelude.{Option, codes}
 use Rattle.std.proofs.lemmas.List.{append_cancel_right, append-nil}
@@ -10,9 +10,9 @@ use Rattle.ebuild_names.specs.declared.path.Names.{Names}
 use Rattle.ebuild_names.specs.declared.path.NameKind.{NameKind}
 use Rattle.ebuild_names.specs.declared.path.NameKind.TheVariants as kind
 use Rattle.ebuild_names.specs.Form.{is_category_name, IsPackageName}
-use Rattle.ebuild_names.specs.Path.{GivesNames, IsBad, IsFileOf, file_of, names_of, revision_name, with_version, without_revision}
+use Rattle.ebuild_names.specs.Path.{GivesNames, IsBad, IsFileOf, names_of, revision_name, with_version, without_revision}
 use Rattle.ebuild_names.specs.Walk.{IsVersionAt, texts_of}
-use Rattle.ebuild_names.specs.Laws.{BadIsOne, FileIsFullName, FullNameHasOneCut, FullNameHasOnePath, FullNameHasRevision, FullNameHasVersion, NamedIsNotBad, NamesAreOne}
+use Rattle.ebuild_names.specs.Laws.{BadIsOne, FileIsFullName, FullNameHasOnePath, FullNameHasRevision, FullNameHasVersion, NamedIsNotBad, NamesAreOne}
 use Rattle.ebuild_names.proofs.Cuts.{file_parts}
 use Rattle.ebuild_names.proofs.Texts.{one_cut, revision_cut, texts_of-spelling}
 
