@@ -1,5 +1,5 @@
 -- Texts that begin or end with a given text, and the versions that a file can name.
-use Rattle.std.proofs.Common.{◌≡◌, ◌≢◌, ℕ, ◌-◌, true, false, nat_eq, List, [], ◌∷◌, ◌++◌, length, take, drop, Option, Some, None, refl, ap, sym, ◌∙◌, append_assoc}
+use Rattle.std.proofs.Common.{◌≡◌, ◌≢◌, ◌-◌, true, false, nat_eq, ◌∷◌, ◌++◌, length, take, drop, Option, Some, None, refl, ap, sym, ◌∙◌, append_assoc}
 use Rattle.std.specs.Prelude.{MatchOption, codes}
 use Rattle.std.specs.Bool.{Decides}
 use Rattle.std.specs.Cmp.Lexicographic.{pointwise}
@@ -10,7 +10,7 @@ use Rattle.std.proofs.lemmas.List.Prefix.{end_rest}
 use Rattle.std.proofs.lemmas.Slice.Eq.{slice_eq-Decides}
 use Rattle.eb_bytes.specs.Text.{Text}
 use Rattle.version_funcs.specs.Version.{IsVersionText, spelling}
-use Rattle.ebuild_names.specs.Path.{IsFileOf, file_of}
+use Rattle.ebuild_names.specs.Path.{IsFileOf}
 use Rattle.ebuild_names.specs.Walk.{IsVersionAt}
 
 -- both cases of an optional value, each taken further
@@ -43,7 +43,6 @@ ended suffix t rest ok e =
 -- the file of a package, cut behind the package's name and its hyphen
 pub file_parts : (pn version : Text) → (pn ++ 45 ∷ version) ++ codes ".ebuild" ≡ pn ++ (45 ∷ (version ++ codes ".ebuild"))
 file_parts pn version = append_assoc pn (45 ∷ version) (codes ".ebuild")
-
 
 -- ---- the version that the name of a file has
 

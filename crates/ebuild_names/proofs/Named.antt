@@ -1,5 +1,5 @@
 -- What a path gives, and what it is wrong in.
-use Rattle.std.proofs.Common.{◌≡◌, true, false, Some, None, [], ◌∷◌, ◌++◌, refl, ap, sym, subst, ◌∙◌, append_assoc}
+use Rattle.std.proofs.Common.{◌≡◌, true, Some, None, ◌∷◌, ◌++◌, refl, ap, sym, subst, ◌∙◌, append_assoc}
 use Rattle.std.proofs.Common.{◌⊎◌, inl, inr}
 use Rattle.std.specs.Prelude.{Option, codes}
 use Rattle.std.proofs.lemmas.List.{append_cancel_right, append-nil}
@@ -10,9 +10,9 @@ use Rattle.ebuild_names.specs.declared.path.Names.{Names}
 use Rattle.ebuild_names.specs.declared.path.NameKind.{NameKind}
 use Rattle.ebuild_names.specs.declared.path.NameKind.TheVariants as kind
 use Rattle.ebuild_names.specs.Form.{is_category_name, IsPackageName}
-use Rattle.ebuild_names.specs.Path.{GivesNames, IsBad, IsFileOf, file_of, names_of, revision_name, with_version, without_revision}
+use Rattle.ebuild_names.specs.Path.{GivesNames, IsBad, IsFileOf, names_of, revision_name, with_version, without_revision}
 use Rattle.ebuild_names.specs.Walk.{IsVersionAt, texts_of}
-use Rattle.ebuild_names.specs.Laws.{BadIsOne, FileIsFullName, FullNameHasOneCut, FullNameHasOnePath, FullNameHasRevision, FullNameHasVersion, NamedIsNotBad, NamesAreOne}
+use Rattle.ebuild_names.specs.Laws.{BadIsOne, FileIsFullName, FullNameHasOnePath, FullNameHasRevision, FullNameHasVersion, NamedIsNotBad, NamesAreOne}
 use Rattle.ebuild_names.proofs.Cuts.{file_parts}
 use Rattle.ebuild_names.proofs.Texts.{one_cut, revision_cut, texts_of-spelling}
 
@@ -73,9 +73,10 @@ revision_behind category pn v well = on v.revision refl
     cut = (revision_cut v well).whole
 
     on : (revision : Option Text) → v.revision ≡ revision → let n = names_of category pn v in ((n.pf ≡ n.p) × (n.pr ≡ codes "r0")) ⊎ (n.pf ≡ n.p ++ 45 ∷ n.pr)
-    on None e = inl
-        (ap (with_version pn) (cut ∙ ap (λ (r : Option Text). spelling (without_revision v) ++ spelled_revision r) e ∙ append-nil (spelling (without_revision v))),
-        ap revision_name e)
+    on None e = inl (
+      ap (with_version pn) (cut ∙ ap (λ (r : Option Text). spelling (without_revision v) ++ spelled_revision r) e ∙ append-nil (spelling (without_revision v))),
+      ap revision_name e,
+    )
     on (Some digits) e = inr
         (ap (with_version pn) (cut ∙ ap (λ (r : Option Text). spelling (without_revision v) ++ spelled_revision r) e)
         ∙ sym (append_assoc pn (45 ∷ spelling (without_revision v)) (45 ∷ 114 ∷ digits))

@@ -12,7 +12,6 @@ use Rattle.version_funcs.proofs.Unambiguous.{unambiguous}
 use Rattle.ebuild_names.specs.Form.{begins}
 use Rattle.ebuild_names.specs.Path.{names_of, revision_name, with_version, without_revision}
 use Rattle.ebuild_names.specs.Walk.{before_hyphen, behind_hyphen, from_hyphen, texts_of}
-use Rattle.ebuild_names.specs.declared.path.Names.{Names}
 
 -- ---- a version without its revision has no hyphen
 

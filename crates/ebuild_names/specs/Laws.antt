@@ -7,7 +7,7 @@ use Rattle.ebuild_names.specs.declared.path.Names.{Names}
 use Rattle.ebuild_names.specs.declared.path.NameKind.{NameKind}
 use Rattle.ebuild_names.specs.Path.{GivesNames, IsBad, with_version}
 
--- PF, with the name of the file behind it cut off
+-- the name of the file is PF and `.ebuild`
 abbrev pub FileIsFullName : Type 0
 FileIsFullName = (at : EbuildPath) (names : Names) → GivesNames at names → at.file ≡ names.pf ++ codes ".ebuild"
 
@@ -15,7 +15,7 @@ FileIsFullName = (at : EbuildPath) (names : Names) → GivesNames at names → a
 abbrev pub FullNameHasVersion : Type 0
 FullNameHasVersion = (at : EbuildPath) (names : Names) → GivesNames at names → names.pf ≡ names.pn ++ 45 ∷ names.pvr
 
--- PF is P, and PR is r0, or PF is P, a hyphen and PR
+-- PF is P where PR is `r0`, or P, a hyphen and PR
 abbrev pub FullNameHasRevision : Type 0
 FullNameHasRevision =
     (at : EbuildPath) (names : Names) → GivesNames at names → ((names.pf ≡ names.p) × (names.pr ≡ codes "r0")) ⊎ (names.pf ≡ names.p ++ 45 ∷ names.pr)

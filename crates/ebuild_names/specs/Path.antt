@@ -1,5 +1,5 @@
 -- What the path of an ebuild gives (Package Manager Specification, "Names and Versions" and "Ebuild-defined Variables").
-use Rattle.std.specs.Prelude.{◌≡◌, ℕ, true, false, [], ◌∷◌, ◌++◌, Option, Some, None, codes}
+use Rattle.std.specs.Prelude.{◌≡◌, true, false, ◌∷◌, ◌++◌, Option, Some, None, codes}
 use Rattle.std.specs.Ordering.{nat_cmp, ordering_then}
 use Rattle.std.specs.Cmp.Lexicographic.{slice_cmp}
 use Rattle.std.specs.declared.cmp.Ordering.{Ordering}

@@ -1,5 +1,5 @@
 -- The names of packages and the texts of a path as the code finds them.
-use Rattle.std.specs.Prelude.{◌≡◌, ℕ, Bool, false, ◌==◌, ◌&&◌, ◌||◌, not, [], ◌∷◌, ◌++◌, codes}
+use Rattle.std.specs.Prelude.{◌≡◌, Bool, false, ◌==◌, ◌&&◌, ◌||◌, not, [], ◌∷◌, ◌++◌, codes}
 use Rattle.std.specs.List.{list_all, take_while}
 use Rattle.eb_bytes.specs.Text.{Text, has_bytes}
 use Rattle.version_funcs.specs.Byte.{after_while, is_no}

@@ -6,6 +6,7 @@
 #![tactic(auto)]
 
 mod field;
+mod names;
 mod request;
 mod versions;
 

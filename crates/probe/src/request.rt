@@ -1,4 +1,5 @@
 use crate::field::{read_texts, what};
+use crate::names::names;
 use crate::versions::{cut, rs, test, version};
 use eb_bytes::{Memory, words_of};
 use std::alloc::Global;
@@ -21,6 +22,8 @@ pub fn answer(alloc: Global, line: &[u8]) -> Result<String, Memory> {
         rs(alloc, texts)
     } else if name == b"test".as_slice() {
         test(alloc, texts)
+    } else if name == b"names".as_slice() {
+        names(alloc, texts)
     } else {
         what(alloc)
     }

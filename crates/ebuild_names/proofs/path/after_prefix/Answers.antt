@@ -1,4 +1,3 @@
-use Rattle.std.proofs.Common.{◌∙◌}
 use Rattle.ebuild_names.proofs.Cuts.{match_further, begun, not_begun}
 use Rattle.ebuild_names.proofs.path.after_prefix.Goals as goal
 

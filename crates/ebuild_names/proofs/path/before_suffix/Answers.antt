@@ -1,4 +1,3 @@
-use Rattle.std.proofs.Common.{◌∙◌}
 use Rattle.ebuild_names.proofs.Cuts.{match_further, ended, not_ended}
 use Rattle.ebuild_names.proofs.path.before_suffix.Goals as goal
 

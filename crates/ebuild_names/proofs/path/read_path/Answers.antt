@@ -1,4 +1,3 @@
-use Rattle.std.proofs.Common.{sym, ◌∙◌}
 use Rattle.ebuild_names.proofs.Named.{gives_names, version_not_bad}
 use Rattle.ebuild_names.proofs.path.read_path.Goals as goal
 
