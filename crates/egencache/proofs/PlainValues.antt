@@ -1,7 +1,6 @@
 -- The values of plain assignments hold no byte 0, and the EAPI of an entry is a known one.
-use Rattle.std.proofs.Common.{◌≡◌, ◌≢◌, ℕ, zero, suc, ◌+◌, ◌-◌, ◌<◌, ◌≤◌, Bool, true, false, ◌&&◌, ◌==◌, nat_le, cond, List, [], ◌∷◌, take, Option, Some, None, IsSome, codes, unwrap_or, refl, sym, subst, arith}
+use Rattle.std.proofs.Common.{◌≡◌, ◌≢◌, ℕ, ◌+◌, ◌<◌, Bool, true, false, ◌&&◌, ◌==◌, cond, List, [], ◌∷◌, take, Option, Some, None, IsSome, codes, unwrap_or, refl, sym, subst, arith}
 use Rattle.std.specs.List.{AllByRecursion, list_all, list_any, prefix_len, take_while}
-use Rattle.std.proofs.lemmas.Bool.{leb-true}
 use Rattle.std.proofs.lemmas.Option.{cond_some}
 use Rattle.std.proofs.lemmas.List.Elements.{All-cons}
 use Rattle.eb_bytes.specs.Text.{Text, has_bytes, is_blank, norm}

@@ -1,5 +1,5 @@
 -- What an ebuild of plain lines says: its entry or its fault, and the steps of its run.
-use Rattle.std.specs.Prelude.{ℕ, ◌+◌, ◌/◌, Bool, nat_le, List, [], ◌∷◌, length, map, sum_by, Option, Some, None, codes, if◌then◌else◌, unwrap_or}
+use Rattle.std.specs.Prelude.{ℕ, ◌+◌, ◌/◌, Bool, nat_le, List, [], length, map, sum_by, Option, Some, None, codes, if◌then◌else◌, unwrap_or}
 use Rattle.md5.specs.Md5.{md5}
 use Rattle.eb_bytes.specs.Text.{Text, lines, has_bytes, norm}
 use Rattle.eapi_tables.specs.declared.eapi.Eapi.{Eapi}
