@@ -6,6 +6,7 @@
 #![tactic(auto)]
 
 mod field;
+mod marks;
 mod request;
 mod versions;
 
