@@ -1,0 +1,8 @@
+//! Word splitting: the fields of a list of marks (Bash Reference Manual, "Word Splitting").
+#![tactic(auto)]
+
+mod fields;
+mod place;
+mod role;
+
+pub use fields::split;
