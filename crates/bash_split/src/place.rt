@@ -32,7 +32,7 @@ impl Place {
 
     // Where the pass stands behind this mark. Fields that end are put at the end of `ended`.
     pub(crate) fn take(self, alloc: Global, ifs: &Ifs<'_>, mark: Mark, ended: &mut Vec<Marked>) -> Result<Place, Memory>
-        ensures { IfOk result (λ next. (ms : List AMark) → ended.new.items ++ fields_left ifs.now.bytes.now next ms ≡ ended.old.items ++ fields_left ifs.now.bytes.now self (mark ∷ ms)) }
+        ensures { IfOk result (λ next. (ms : List AMark) → ended.new.items ++ fields_left ifs.now next ms ≡ ended.old.items ++ fields_left ifs.now self (mark ∷ ms)) }
     {
         match ifs.role(mark) {
             Role::Part => self.part(alloc, mark),
