@@ -21,7 +21,7 @@ pub part-within : (ifs : Text) (begun more : List Mark) (m : Mark) (ms : List Ma
 part-within ifs begun more m ms is_part grown = rw (grown, is_part) (onto-more begun m (is_joined ifs ms) (fields ifs ms))
 
 -- where a separator is next, it ends an empty field
-empty-first : (ifs : Text) (ms : List Mark) → separator_is_next ifs ms ≡ true → fields ifs ms ≡ [] ∷ rest_of (fields ifs ms)
+pub empty-first : (ifs : Text) (ms : List Mark) → separator_is_next ifs ms ≡ true → fields ifs ms ≡ [] ∷ rest_of (fields ifs ms)
 empty-first ifs [] next = absurd (cc)
 empty-first ifs (m ∷ ms) next = by_role (role ifs m) next (empty-first ifs ms)
   where
