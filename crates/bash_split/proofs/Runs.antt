@@ -58,6 +58,7 @@ runs-fields ifs (m ∷ ms) none =
     or_false : (b : Bool) → (b || false) ≡ b
     or_false true = refl
     or_false false = refl
+
     by_role : (r : Role) → not (is_separator_role r) ≡ true → (first : List Mark) (rest : List (List Mark)) → fields_from r m (has_marks first) (filter has_marks (first ∷ rest)) ≡ filter has_marks (cond (not (is_part r)) ([] ∷ first ∷ rest) (onto_first m (first ∷ rest)))
     by_role Part other [] rest = refl
     by_role Part other (n ∷ ns) rest = refl

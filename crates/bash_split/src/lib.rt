@@ -5,6 +5,8 @@ mod fields;
 mod laws;
 mod place;
 mod role;
+#[cfg(test)]
+mod tests;
 
 pub use fields::split;
 pub use laws::{

@@ -31,7 +31,13 @@ impl Place {
     ghost use Rattle.bash_split.specs.Pass.{fields_left};
 
     // Where the pass stands behind this mark. Fields that end are put at the end of `ended`.
-    pub(crate) fn take(self, alloc: Global, ifs: &Ifs<'_>, mark: Mark, ended: &mut Vec<Marked>) -> Result<Place, Memory>
+    pub(crate) fn take(
+        self,
+        alloc: Global,
+        ifs: &Ifs<'_>,
+        mark: Mark,
+        ended: &mut Vec<Marked>,
+    ) -> Result<Place, Memory>
         ensures { IfOk result (λ next. (ms : List AMark) → ended.new.items ++ fields_left ifs.now next ms ≡ ended.old.items ++ fields_left ifs.now self (mark ∷ ms)) }
     {
         match ifs.role(mark) {
