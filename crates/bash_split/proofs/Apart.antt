@@ -1,5 +1,5 @@
 -- What a break parts.
-use Rattle.std.proofs.Common.{◌≡◌, Bool, true, false, List, [], ◌∷◌, ◌++◌, refl, sym, ap, ◌∙◌}
+use Rattle.std.proofs.Common.{◌≡◌, Bool, true, false, List, [], ◌∷◌, ◌++◌, refl, ap}
 use Rattle.std.specs.Prelude.{◌||◌}
 use Rattle.eb_bytes.specs.declared.marked.Mark.{Mark}
 use Rattle.eb_bytes.specs.declared.marked.Mark.TheVariants.{Break}

@@ -1,12 +1,12 @@
 -- Lists whose marks stay or are separators: each separator ends a field.
 use Rattle.std.proofs.Common.{◌≡◌, Bool, true, false, not, cond, List, [], ◌∷◌, refl, sym, ap, ◌∙◌}
-use Rattle.std.specs.Prelude.{◌&&◌, ◌||◌}
+use Rattle.std.specs.Prelude.{◌||◌}
 use Rattle.std.specs.List.{list_all, slice_split, onto_first}
 use Rattle.eb_bytes.specs.declared.marked.Mark.{Mark}
 use Rattle.eb_bytes.specs.Text.{Text}
 use Rattle.bash_split.specs.declared.role.Role.{Role}
 use Rattle.bash_split.specs.declared.role.Role.TheVariants.{Part, Blank, Separator, Border}
-use Rattle.bash_split.specs.Fields.{role, is_part, is_joined, separator_is_next, leads_to_separator, fields, fields_from}
+use Rattle.bash_split.specs.Fields.{role, is_part, is_joined, fields, fields_from}
 use Rattle.bash_split.specs.Laws.{stays, divides, is_separator, is_separator_role, has_marks, without_empty_end}
 use Rattle.bash_split.proofs.Kept.{both}
 

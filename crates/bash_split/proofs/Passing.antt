@@ -1,8 +1,7 @@
 -- The pass over the marks, place by place.
-use Rattle.std.proofs.Common.{◌≡◌, Bool, true, false, List, [], ◌∷◌, ◌++◌, append_assoc, refl, sym, ap, ◌∙◌}
+use Rattle.std.proofs.Common.{◌≡◌, Bool, true, false, List, [], ◌∷◌, ◌++◌, append_assoc, refl, ap}
 use Rattle.std.proofs.lemmas.List.{append-nil}
-use Rattle.std.specs.Prelude.{if◌then◌else◌, ◌||◌}
-use Rattle.std.specs.List.{onto_first}
+use Rattle.std.specs.Prelude.{if◌then◌else◌}
 use Rattle.eb_bytes.specs.declared.marked.Mark.{Mark}
 use Rattle.eb_bytes.specs.Text.{Text}
 use Rattle.bash_split.specs.declared.role.Role.{Role}

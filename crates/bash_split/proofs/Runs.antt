@@ -1,6 +1,6 @@
 -- Lists without separators: the fields are runs between the marks that divide.
-use Rattle.std.proofs.Common.{◌≡◌, ℕ, Bool, true, false, not, cond, List, [], ◌∷◌, filter, refl, sym, ap, ◌∙◌}
-use Rattle.std.specs.Prelude.{◌&&◌, ◌||◌}
+use Rattle.std.proofs.Common.{◌≡◌, Bool, true, false, not, cond, List, [], ◌∷◌, filter, refl, ap, ◌∙◌}
+use Rattle.std.specs.Prelude.{◌||◌}
 use Rattle.std.specs.List.{list_all, slice_split, onto_first}
 use Rattle.eb_bytes.specs.declared.marked.Mark.{Mark}
 use Rattle.eb_bytes.specs.declared.marked.Mark.TheVariants.{Literal, Result, Quoted, Empty, Break}
@@ -8,7 +8,7 @@ use Rattle.eb_bytes.specs.Text.{Text}
 use Rattle.bash_split.specs.declared.role.Role.{Role}
 use Rattle.bash_split.specs.declared.role.Role.TheVariants.{Part, Blank, Separator, Border}
 use Rattle.bash_split.specs.Fields.{role, is_part, is_joined, begins_with_part, separator_is_next, leads_to_separator, fields, fields_from}
-use Rattle.bash_split.specs.Laws.{stays, divides, is_separator, is_separator_role, is_break, has_marks}
+use Rattle.bash_split.specs.Laws.{divides, is_separator, is_separator_role, is_break, has_marks}
 use Rattle.bash_split.proofs.Kept.{both}
 
 -- ---- no separator is next

@@ -1,5 +1,5 @@
 -- A table of the bytes of a text, made byte by byte.
-use Rattle.std.proofs.Common.{◌≡◌, ℕ, ◌+◌, ◌<◌, Bool, true, false, List, [], ◌∷◌, length, drop, drop-cons, get_or, slice_set, refl, sym, subst, ap, ◌∙◌, add-one, ⊎_elim}
+use Rattle.std.proofs.Common.{◌≡◌, ℕ, ◌+◌, ◌<◌, Bool, true, false, List, ◌∷◌, length, drop, drop-cons, get_or, slice_set, refl, sym, subst, ◌∙◌, add-one, ⊎_elim}
 use Rattle.std.specs.Prelude.{◌||◌, ◌==◌, slice_index_or, replicate}
 use Rattle.std.proofs.lemmas.List.{get_or-replicate, get_or-set_same, get_or-set_other}
 use Rattle.std.proofs.lemmas.Bool.Decides.{eqb_tells}
