@@ -25,10 +25,8 @@ fn field_of(alloc: Global, mark: Mark) -> Result<Marked, Memory>
 }
 
 impl Place {
-    ghost use Rattle.eb_bytes.specs.declared.marked.Mark.{Mark as AMark};
     ghost use Rattle.eb_bytes.specs.Text.{Text};
-    ghost use Rattle.bash_split.specs.Fields.{role};
-    ghost use Rattle.bash_split.specs.Pass.{fields_left};
+    ghost use Rattle.bash_split.specs.Pass.{fields_left, TakesMark, TakesPart, TakesRole};
 
     // Where the pass stands behind this mark. Fields that end are put at the end of `ended`.
     pub(crate) fn take(
@@ -38,7 +36,7 @@ impl Place {
         mark: Mark,
         ended: &mut Vec<Marked>,
     ) -> Result<Place, Memory>
-        ensures { IfOk result (λ next. (ms : List AMark) → ended.new.items ++ fields_left ifs.now next ms ≡ ended.old.items ++ fields_left ifs.now self (mark ∷ ms)) }
+        ensures { IfOk result (TakesMark ifs.now mark self ended.old.items ended.new.items) }
     {
         match ifs.role(mark) {
             Role::Part => self.part(alloc, mark),
@@ -50,7 +48,7 @@ impl Place {
 
     // Behind a part of a field.
     fn part(self, alloc: Global, mark: Mark) -> Result<Place, Memory>
-        ensures { IfOk result (λ next. (ifs : Text) (ms : List AMark) → role ifs mark ≡ Role.Part → fields_left ifs next ms ≡ fields_left ifs self (mark ∷ ms)) }
+        ensures { IfOk result (TakesPart mark self) }
     {
         match self {
             Place::Within(mut begun) => {
@@ -63,7 +61,7 @@ impl Place {
 
     // Behind a blank.
     fn blank(self, ended: &mut Vec<Marked>) -> Result<Place, Memory>
-        ensures { IfOk result (λ next. (ifs : Text) (m : AMark) (ms : List AMark) → role ifs m ≡ Role.Blank → ended.new.items ++ fields_left ifs next ms ≡ ended.old.items ++ fields_left ifs self (m ∷ ms)) }
+        ensures { IfOk result (TakesRole Role.Blank self ended.old.items ended.new.items) }
     {
         match self {
             Place::Within(begun) => {
@@ -77,7 +75,7 @@ impl Place {
 
     // Behind a separator.
     fn separator(self, alloc: Global, ended: &mut Vec<Marked>) -> Result<Place, Memory>
-        ensures { IfOk result (λ next. (ifs : Text) (m : AMark) (ms : List AMark) → role ifs m ≡ Role.Separator → ended.new.items ++ fields_left ifs next ms ≡ ended.old.items ++ fields_left ifs self (m ∷ ms)) }
+        ensures { IfOk result (TakesRole Role.Separator self ended.old.items ended.new.items) }
     {
         match self {
             Place::Within(begun) => ended.push(begun)?,
@@ -89,7 +87,7 @@ impl Place {
 
     // Behind a border.
     fn border(self, ended: &mut Vec<Marked>) -> Result<Place, Memory>
-        ensures { IfOk result (λ next. (ifs : Text) (m : AMark) (ms : List AMark) → role ifs m ≡ Role.Border → ended.new.items ++ fields_left ifs next ms ≡ ended.old.items ++ fields_left ifs self (m ∷ ms)) }
+        ensures { IfOk result (TakesRole Role.Border self ended.old.items ended.new.items) }
     {
         self.end(ended)?;
         Ok(Place::Outside)

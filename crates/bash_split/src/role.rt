@@ -10,9 +10,9 @@ use std::marker::Model;
 pub(crate) enum Role {
     // It is part of a field.
     Part,
-    // It ends a field if one is begun, and belongs to a separator that comes next.
+    // It ends a field if one is begun, together with a separator that comes next.
     Blank,
-    // It ends a field, an empty one if none is begun.
+    // It ends a field: the one that is begun, or that blanks before it ended, or else an empty one.
     Separator,
     // It ends a field if one is begun.
     Border,
@@ -36,7 +36,8 @@ fn table_of(bytes: &[u8]) -> [bool; 256]
     table
 }
 
-// The bytes of IFS, with a table of them, so that the time of a look-up does not grow with IFS. Contracts see the bytes.
+// The bytes of IFS, with a table of them, so that the time of a look-up does not grow with IFS. Contracts see the
+// bytes.
 #[derive(Drop)]
 pub(crate) struct Ifs<'a> {
     bytes: &'a [u8],
