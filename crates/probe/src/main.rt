@@ -1,13 +1,17 @@
 //! Answers requests to the libraries, one a line, for measurements and comparisons. No part of the product.
 //!
 //! It reads one request a line from standard input and writes one answer a line, to the end of the input. Fields are
-//! separated by blanks. A text is lower-case hexadecimal, `-` where it is empty. A line that is no request answers
-//! `what`.
+//! separated by blanks. A text is lower-case hexadecimal, `-` where it is empty. A list of marks is its marks joined by
+//! commas, `-` where it is empty: `Lhh` a literal, `Rhh` a byte of a result, `Qhh` a quoted byte, each with the byte in
+//! hexadecimal, `E` empty quotes, `B` a break; where several lists are written, an empty one is `.`. A line that is no
+//! request answers `what`.
 #![tactic(auto)]
 
 mod field;
 mod names;
+mod marks;
 mod request;
+mod splits;
 mod versions;
 
 use crate::request::answer;

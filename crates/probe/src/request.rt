@@ -1,5 +1,6 @@
 use crate::field::{read_texts, what};
 use crate::names::names;
+use crate::splits::split;
 use crate::versions::{cut, rs, test, version};
 use eb_bytes::{Memory, words_of};
 use std::alloc::Global;
@@ -10,6 +11,9 @@ pub fn answer(alloc: Global, line: &[u8]) -> Result<String, Memory> {
     let [name, fields @ ..] = fields.as_slice() else {
         return what(alloc);
     };
+    if name.as_slice() == b"split".as_slice() {
+        return split(alloc, fields);
+    }
     let Some(texts) = read_texts(alloc, fields)? else {
         return what(alloc);
     };

@@ -1,0 +1,6 @@
+pub mod Apart
+pub mod Ends
+pub mod Kept
+pub mod Passing
+pub mod Runs
+pub mod Tables
