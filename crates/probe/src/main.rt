@@ -8,8 +8,8 @@
 #![tactic(auto)]
 
 mod field;
-mod names;
 mod marks;
+mod names;
 mod request;
 mod splits;
 mod versions;
