@@ -5,6 +5,8 @@
 //! `what`.
 #![tactic(auto)]
 
+mod eapis;
+mod entries;
 mod field;
 mod names;
 mod request;
