@@ -118,7 +118,8 @@ fn agreed_outcome(
     match Entry::new(alloc, values, Vec::new(alloc), digest_of(text)) {
         Ok(entry) => Ok(Outcome::Entry(entry)),
         Err(EntryErr::Incomplete) => Ok(Outcome::Fault(Fault::SlotMissing)),
-        Err(EntryErr::Memory) => Err(Memory),
+        // Only a text that is read can be bad: `Entry::new` never answers `BadEntry`.
+        Err(EntryErr::Memory | EntryErr::BadEntry) => Err(Memory),
     }
 }
 

@@ -13,6 +13,7 @@ use Rattle.std.proofs.lemmas.List.Elements.{All-contains, All-from_recursion, Al
 use Rattle.std.specs.Result.{result_ok}
 use Rattle.std.specs.Cmp.Lexicographic.{bytes_decides, pointwise}
 use Rattle.eb_bytes.specs.Text.{Text, has_bytes, norm}
+use Rattle.eb_digest.specs.Digest.{IsDigest}
 use Rattle.eapi_tables.specs.Eapi.{eapi_number, eapi_text, has_key, since_eapi}
 use Rattle.eapi_tables.specs.EclassName.{IsEclassName}
 use Rattle.eapi_tables.specs.Key.{all_keys, key_place}
@@ -234,9 +235,9 @@ eapi_has k o = option_map_or (λ e. has_key e k) o false
 
 pub IsEntry-kept : (values : List Value) (read recorded : List (Text × Text)) (md5 : Text)
     → All (λ v. HasNoZero v.1) values → is_complete values ≡ true → IsSome (eapi_of values)
-    → All (λ e. IsEclassName e.0) read → IsRecordOf read recorded
+    → All (λ e. IsEclassName e.0) read → IsRecordOf read recorded → All (λ e. IsDigest e.1) recorded → IsDigest md5
     → IsEntry (record { values = kept_values values; eclasses = recorded; md5 = md5 })
-IsEntry-kept values read recorded md5 clean complete named names record_of =
+IsEntry-kept values read recorded md5 clean complete named names record_of digests digest =
     let e = some_eapi (eapi_of values) named in
     let always = λ (k : Key) (h : since_eapi k ≡ 0).
     ap (eapi_has k) e.1 ∙ ap (λ n. nat_le n (eapi_number e.0)) h ∙ from_zero (eapi_number e.0) in
@@ -263,6 +264,8 @@ IsEntry-kept values read recorded md5 clean complete named names record_of =
           All-weaker (Contains read) (λ x. IsEclassName x.0) (λ x c. All-contains (λ y. IsEclassName y.0) read x names c) recorded
           record_of.only_read;
       by_name = record_of.by_name;
+      digests = digests;
+      digest = digest;
     }
 
 -- ---- the EAPI of a text

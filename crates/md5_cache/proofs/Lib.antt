@@ -1,5 +1,14 @@
+pub mod Cuts
+pub mod EclassRecords
 pub mod Example
 pub mod Joined
 pub mod Kept
 pub mod Norm
+pub mod ReadLast
+pub mod ReadRecord
+pub mod ReadValues
 pub mod Records
+pub mod Rising
+pub mod Ruled
+pub mod ValueLines
+pub mod Whole

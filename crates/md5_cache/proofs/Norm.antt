@@ -1,6 +1,7 @@
 -- The normal form of a text: it is its own, and has the text's bytes and blanks alone.
-use Rattle.std.proofs.Common.{◌≡◌, ℕ, Bool, true, false, cond, List, [], ◌∷◌, ◌++◌, filter, refl, ap, ◌∙◌}
-use Rattle.std.specs.List.{All, AllByRecursion, slice_split, onto_first, join_with_byte}
+use Rattle.std.proofs.Common.{◌≡◌, ℕ, Bool, true, false, not, ◌==◌, cond, arith, List, [], ◌∷◌, ◌++◌, filter, refl, ap, ◌∙◌}
+use Rattle.std.proofs.lemmas.Bool.Decides.{nat_tests}
+use Rattle.std.specs.List.{All, AllByRecursion, AllPass, slice_split, onto_first, join_with_byte}
 use Rattle.std.proofs.lemmas.List.Elements.{All-from_recursion, recursion_from_All}
 use Rattle.std.proofs.lemmas.List.Splits.{slice_split_at, slice_split_none}
 use Rattle.eb_bytes.specs.Text.{Text, is_space, has_bytes, words, norm}
@@ -76,3 +77,22 @@ words-join (w ∷ v ∷ ws) h =
 
 pub norm-norm : (t : Text) → norm (norm t) ≡ norm t
 norm-norm t = ap (join_with_byte 32) (words-join (words t) (are_words (slice_split is_space t) (solid_parts t)))
+
+-- ---- no newline
+
+no_newline : (b : ℕ) → NotSpace b → not (b == 10) ≡ true
+no_newline b h = grind (arith, nat_tests)
+
+word-lacks : (w : Text) → AllByRecursion NotSpace w → AllByRecursion (λ b. not (b == 10) ≡ true) w
+word-lacks [] h = tt
+word-lacks (b ∷ bs) h = (no_newline b h.0, word-lacks bs h.1)
+
+words-lack : (ws : List Text) → AllByRecursion IsWord ws → AllParts (λ b. not (b == 10) ≡ true) ws
+words-lack [] h = tt
+words-lack (w ∷ ws) h = (word-lacks w h.0.solid, words-lack ws h.1)
+
+-- a normal form holds no newline
+pub norm-lacks : (t : Text) → AllPass (λ b. not (b == 10)) (norm t)
+norm-lacks t =
+    let are = are_words (slice_split is_space t) (solid_parts t) in
+    All-from_recursion (λ b. not (b == 10) ≡ true) (norm t) (joined (λ b. not (b == 10) ≡ true) refl (words t) (words-lack (words t) are))

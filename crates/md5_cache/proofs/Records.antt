@@ -56,6 +56,9 @@ module _ (name md5 : Text) where
   all_put P new (e ∷ es) h =
       all_next P (by_bytes name e.0) e es (put es) (exact name e.0) new h.0 h.1 (all_put P new es h.1)
 
+  pub All-put : (P : Pair → Type 0) → P (name, md5) → (es : List Pair) → All P es → All P (put es)
+  All-put P new es h = All-from_recursion P (put es) (all_put P new es (recursion_from_All P es h))
+
   pub only_read-put : (read es : List Pair) → All (Contains read) es → All (Contains (read ++ (name, md5) ∷ [])) (put es)
   only_read-put read es h =
       let P = λ (x : Pair). Contains (read ++ (name, md5) ∷ []) x in
@@ -121,3 +124,8 @@ IsRecordOf-entries items (Ok list) read entries same ordered only all = record {
   all_read = rw same all;
 }
 IsRecordOf-entries items (Err e) read entries same ordered only all = tt
+
+pub All-entries : {V E : Type 0} (items : V → List Pair) (P : Pair → Type 0) (r : Result V E) (entries : List Pair)
+    → IfOk r (λ list. items list ≡ entries) → All P entries → IfOk r (λ list. All P (items list))
+All-entries items P (Ok list) entries same all = rw same all
+All-entries items P (Err e) entries same all = tt

@@ -6,7 +6,7 @@ use Rattle.std.specs.Option.{option_map_or}
 use Rattle.std.specs.Ordering.{nat_cmp}
 use Rattle.std.specs.Cmp.Lexicographic.{pointwise}
 use Rattle.eb_bytes.specs.Text.{Text, has_bytes, norm}
-use Rattle.eb_digest.specs.Digest.{digest_text}
+use Rattle.eb_digest.specs.Digest.{IsDigest, digest_text}
 use Rattle.eapi_tables.specs.Eapi.{eapi_text, has_key}
 use Rattle.eapi_tables.specs.EclassName.{IsEclassName}
 use Rattle.eapi_tables.specs.Key.{all_keys, key_name, key_place}
@@ -77,6 +77,8 @@ pub record IsEntry (entry : EntryContent) : Type 0 where
   pub no_zero : All (λ value. HasNoZero value.1) entry.values
   pub names : All (λ eclass. IsEclassName eclass.0) entry.eclasses
   pub by_name : AreByName entry.eclasses
+  pub digests : All (λ eclass. IsDigest eclass.1) entry.eclasses
+  pub digest : IsDigest entry.md5
 
 -- ---- the text
 
@@ -95,3 +97,17 @@ eclasses_line (eclass ∷ eclasses) = line (codes "_eclasses_") (record_text (ec
 -- the lines of an entry
 abbrev pub entry_text : EntryContent → Text
 entry_text entry = flat_map value_line entry.values ++ eclasses_line entry.eclasses ++ line (codes "_md5_") (digest_text entry.md5)
+
+-- ---- one text, one entry
+
+-- the text is that of no other entry
+abbrev pub IsTextOfOne : Text → EntryContent → Type 0
+IsTextOfOne text entry = (other : EntryContent) → IsEntry other → entry_text other ≡ text → other ≡ entry
+
+-- no text that is cut off this one's end leaves the text of an entry, but the empty one
+abbrev pub HasNoEntryBefore : Text → Type 0
+HasNoEntryBefore text = (other : EntryContent) (rest : Text) → IsEntry other → entry_text other ++ rest ≡ text → rest ≡ []
+
+-- the text is that of no entry
+abbrev pub IsTextOfNone : Text → Type 0
+IsTextOfNone text = (other : EntryContent) → IsEntry other → entry_text other ≢ text

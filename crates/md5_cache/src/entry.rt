@@ -1,12 +1,15 @@
-ghost use Rattle.std.specs.Prelude.{◌≡◌, ◌==◌, false, All, IfOk, IsTrue, IsSome, OnOk, find};
+ghost use Rattle.std.specs.Prelude.{◌≡◌, ◌≢◌, ◌==◌, false, All, IfOk, IsTrue, IsSome, OnOk, find};
 ghost use Rattle.std.specs.Option.{option_copied};
 ghost use Rattle.eb_bytes.specs.Text.{has_bytes};
 ghost use Rattle.eapi_tables.specs.EclassName.{IsEclassName};
 ghost use Rattle.eapi_tables.specs.Key.{key_place};
 ghost use Rattle.md5_cache.specs.Entry.{HasNoZero, IsEntry, eapi_of, is_complete, kept_value, kept_values, value_of, words_of};
+ghost use Rattle.md5_cache.specs.Parts.{IsPlain};
 ghost use Rattle.md5_cache.specs.Record.{HasOneMd5, IsRecordOf};
 
-use crate::record::record_of;
+use crate::parts::Parts;
+use crate::record::{as_digest, record_of};
+use crate::rules::{all_keep_rules, are_by_name, are_in_order};
 use eapi_tables::{Eapi, Key, has_key};
 use eb_bytes::{Bytes, Memory, join_words};
 use eb_digest::Digest;
@@ -36,6 +39,8 @@ impl Model for Entry {
 pub enum EntryErr {
     /// A key that stands in every entry has no words.
     Incomplete,
+    /// A text is that of no entry.
+    BadEntry,
     /// Memory ran out.
     Memory,
 }
@@ -162,6 +167,7 @@ impl Entry {
         ensures values { IfOk result (λ entry. entry.values ≡ kept_values values.items) }
         ensures eclasses { IfOk result (λ entry. IsRecordOf eclasses.items entry.eclasses) }
         ensures md5 { IfOk result (λ entry. entry.md5 ≡ md5) }
+        ensures never_bad { result ≢ Err EntryErr.BadEntry }
     {
         if !is_complete(alloc, values.as_slice())? {
             return Err(EntryErr::Incomplete);
@@ -174,7 +180,38 @@ impl Entry {
         Ok(Entry {
             values: kept,
             eclasses: record,
-            md5,
+            md5: as_digest(md5),
+        })
+    }
+
+    // The entry of these parts as they stand, if they keep the rules.
+    pub(crate) fn of_parts(alloc: Global, parts: Parts) -> Result<Entry, EntryErr>
+        requires { IsPlain (record { values = parts.values.items; eclasses = parts.eclasses.items; md5 = parts.md5 }) }
+        ensures same { IfOk result (λ entry. entry ≡ record { values = parts.values.items; eclasses = parts.eclasses.items; md5 = parts.md5 }) }
+        ensures rules { IfOk result IsEntry }
+        ensures bad { result ≡ Err EntryErr.BadEntry → ¬ IsEntry (record { values = parts.values.items; eclasses = parts.eclasses.items; md5 = parts.md5 }) }
+        ensures never_incomplete { result ≢ Err EntryErr.Incomplete }
+    {
+        let values = parts.values.as_slice();
+        let Some(eapi) = eapi_of(alloc, values)? else {
+            return Err(EntryErr::BadEntry);
+        };
+        if !is_complete(alloc, values)? {
+            return Err(EntryErr::BadEntry);
+        }
+        if !all_keep_rules(alloc, eapi, values)? {
+            return Err(EntryErr::BadEntry);
+        }
+        if !are_in_order(values) {
+            return Err(EntryErr::BadEntry);
+        }
+        if !are_by_name(parts.eclasses.as_slice()) {
+            return Err(EntryErr::BadEntry);
+        }
+        Ok(Entry {
+            values: parts.values,
+            eclasses: parts.eclasses,
+            md5: parts.md5,
         })
     }
 

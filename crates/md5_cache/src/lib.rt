@@ -1,9 +1,15 @@
-//! The metadata cache in the layout `md5-dict`: the entry of an ebuild, and its text.
+//! The metadata cache in the layout `md5-dict`: the entry of an ebuild, its text, and reading that.
 #![tactic(auto)]
 
+mod eclasses;
 mod entry;
+mod lines;
+mod parts;
+mod read;
 mod record;
+mod rules;
 mod write;
 
 pub use entry::{Entry, EntryErr};
+pub use read::read_entry;
 pub use write::write_entry;

@@ -1,4 +1,5 @@
 ghost use Rattle.std.specs.Prelude.{◌≡◌, All, Contains, IfOk};
+ghost use Rattle.eb_digest.specs.Digest.{IsDigest};
 ghost use Rattle.md5_cache.specs.Record.{AreByName, HasOneMd5, IsRecordOf};
 
 use eb_bytes::{Bytes, Memory};
@@ -6,15 +7,25 @@ use eb_digest::Digest;
 use std::alloc::Global;
 use std::collections::BTreeMap;
 
+// Says of a digest that it is one.
+pub(crate) fn as_digest(md5: Digest) -> Digest
+    ensures same { result ≡ md5 }
+    ensures digest { IsDigest md5 }
+{
+    let _ = md5.bytes();
+    md5
+}
+
 // The eclasses as a map from their names.
 fn map_of(alloc: Global, eclasses: Vec<(Bytes, Digest)>) -> Result<BTreeMap<Bytes, Digest>, Memory>
     requires { HasOneMd5 eclasses.items }
     ensures only_read { IfOk result (λ map. All (Contains eclasses.items) map.entries) }
     ensures all_read { IfOk result (λ map. All (Contains map.entries) eclasses.items) }
+    ensures digests { IfOk result (λ map. All (λ eclass. IsDigest eclass.1) map.entries) }
 {
     let mut map = BTreeMap::new(alloc);
     for (name, md5) in eclasses {
-        map.insert(name, md5)?;
+        map.insert(name, as_digest(md5))?;
     }
     Ok(map)
 }
@@ -39,7 +50,8 @@ pub fn record_of(
     eclasses: Vec<(Bytes, Digest)>,
 ) -> Result<Vec<(Bytes, Digest)>, Memory>
     requires { HasOneMd5 eclasses.items }
-    ensures { IfOk result (λ list. IsRecordOf eclasses.items list.items) }
+    ensures record { IfOk result (λ list. IsRecordOf eclasses.items list.items) }
+    ensures digests { IfOk result (λ list. All (λ eclass. IsDigest eclass.1) list.items) }
 {
     entries_of(alloc, map_of(alloc, eclasses)?)
 }

@@ -1,6 +1,6 @@
 ghost use Rattle.std.specs.Prelude.{◌≡◌, ◌∷◌, [], ◌++◌, IfOk, OnOk};
 ghost use Rattle.std.specs.List.{flat_map};
-ghost use Rattle.md5_cache.specs.Entry.{eclasses_line, entry_text, line, value_line};
+ghost use Rattle.md5_cache.specs.Entry.{HasNoEntryBefore, IsTextOfOne, eclasses_line, entry_text, line, value_line};
 ghost use Rattle.md5_cache.specs.Record.{eclass_text, record_text};
 
 use crate::entry::Entry;
@@ -62,12 +62,15 @@ fn put_eclasses(alloc: Global, out: &mut Bytes, eclasses: &[(Bytes, Digest)]) ->
 }
 
 /// The file of an entry: a line `KEY=value` for each value, the line of the eclasses where there are some, and the
-/// line of the MD5, each ended by a newline.
+/// line of the MD5, each ended by a newline. No other entry has this text, and none has a text that it begins with and
+/// that is shorter.
 ///
 /// # Errors
 /// `Memory` where there is no room for it.
 pub fn write_entry(alloc: Global, entry: &Entry) -> Result<Bytes, Memory>
-    ensures { IfOk result (λ text. text ≡ entry_text entry.now) }
+    ensures text { IfOk result (λ text. text ≡ entry_text entry.now) }
+    ensures one { IfOk result (λ text. IsTextOfOne text entry.now) }
+    ensures whole { IfOk result HasNoEntryBefore }
 {
     let mut out = Bytes::new(alloc);
     put_values(&mut out, entry.values())?;

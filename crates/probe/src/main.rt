@@ -7,6 +7,8 @@
 //! request answers `what`.
 #![tactic(auto)]
 
+mod eapis;
+mod entries;
 mod field;
 mod marks;
 mod names;

@@ -1,3 +1,5 @@
+use crate::eapis::{eapi, key, phase};
+use crate::entries::entry;
 use crate::field::{read_texts, what};
 use crate::names::names;
 use crate::splits::split;
@@ -28,6 +30,14 @@ pub fn answer(alloc: Global, line: &[u8]) -> Result<String, Memory> {
         test(alloc, texts)
     } else if name == b"names".as_slice() {
         names(alloc, texts)
+    } else if name == b"eapi".as_slice() {
+        eapi(alloc, texts)
+    } else if name == b"key".as_slice() {
+        key(alloc, texts)
+    } else if name == b"phase".as_slice() {
+        phase(alloc, texts)
+    } else if name == b"entry".as_slice() {
+        entry(alloc, texts)
     } else {
         what(alloc)
     }

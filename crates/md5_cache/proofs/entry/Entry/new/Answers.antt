@@ -12,6 +12,6 @@ invariant_of-result c =
     ap is_complete (sym c.as_slice.ensures.value) ∙ sym c.in_ok-is_complete.ensures ∙ c.if-not-branch.false in
     let named : IsSome (eapi_of values) =
     subst IsSome (sym c.in-Some.is ∙ c.in_ok-eapi.ensures ∙ ap eapi_of c.as_slice-2.ensures.value) refl in
-    rw kept
+    rw (kept, c.as_digest.ensures.same)
     (IsEntry-kept values c.args.eclasses.items c.in_ok-record.record.items c.args.md5 c.requires.no_zero complete named c.requires.names
-    c.in_ok-record.ensures)
+    c.in_ok-record.ensures.record c.in_ok-record.ensures.digests c.as_digest.ensures.digest)
