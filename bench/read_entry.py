@@ -1,15 +1,17 @@
 #!/usr/bin/env python3
 """Usage: read_entry.py [PROGRAM [RUNS]]
 
-Times the reading of entries by the probe, from texts of about SIZE bytes and of twice that: the best of RUNS runs (3) of
-PROGRAM (crates/probe/out/probe), and beside it that of a line of the same size that is no request, which is the time
-that reading it takes. If twice the size takes about twice the time, the time is linear. Each answer is compared with
-one that this script works out. Ends with 1 where one is wrong.
+Times the reading of entries by the probe, from texts of about SIZE bytes and of twice that: the processor time of the
+best of RUNS runs (3) of PROGRAM (crates/probe/out/probe), from reading the line to writing the answer, and beside it
+that of a line of the same size that is no request. If twice the size takes about twice the time, the time is linear.
+The request is given in a file, since from a pipe the probe reads byte by byte. Each answer is compared with one that
+this script works out. Ends with 1 where one is wrong.
 """
 import os
+import resource
 import subprocess
 import sys
-import time
+import tempfile
 
 SIZE = 2 << 20
 DIGEST = b"0123456789abcdef" * 2
@@ -32,14 +34,24 @@ def texts(size):
     yield "no newline", b"DESCRIPTION=" + b"x" * size, False
 
 
+def spent():
+    """The processor seconds of the programs that this one ran"""
+    usage = resource.getrusage(resource.RUSAGE_CHILDREN)
+    return usage.ru_utime + usage.ru_stime
+
+
 def best(program, runs, request, answer):
-    """The seconds of the quickest run, and whether each run gave the answer"""
+    """The processor seconds of the quickest run, and whether each run gave the answer"""
     seconds, is_right = [], True
-    for _ in range(runs):
-        start = time.perf_counter()
-        done = subprocess.run([program], input=request + b"\n", stdout=subprocess.PIPE, check=False)
-        seconds.append(time.perf_counter() - start)
-        is_right &= done.returncode == 0 and done.stdout == answer + b"\n"
+    with tempfile.TemporaryFile() as file:
+        file.write(request + b"\n")
+        file.flush()
+        for _ in range(runs):
+            file.seek(0)
+            start = spent()
+            done = subprocess.run([program], stdin=file, stdout=subprocess.PIPE, check=False)
+            seconds.append(spent() - start)
+            is_right &= done.returncode == 0 and done.stdout == answer + b"\n"
     return min(seconds), is_right
 
 
