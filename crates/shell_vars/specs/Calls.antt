@@ -1,0 +1,155 @@
+-- What each call makes of a store, or the refusal that comes first.
+use Rattle.std.specs.Prelude.{ℕ, ℤ, suc, Bool, true, false, ◌&&◌, ◌||◌, ◌==◌, nat_eq, [], ◌∷◌, List, is_some, unwrap_or, Option, Some, None, Result, Ok, Err, if◌then◌else◌}
+use Rattle.std.specs.Option.{option_and_then, option_map_or}
+use Rattle.std.specs.FinMap as map
+use Rattle.eb_bytes.specs.Text.{Text}
+use Rattle.shell_vars.specs.declared.attr.Attr.{Attr}
+use Rattle.shell_vars.specs.declared.binding.Binding.{Binding}
+use Rattle.shell_vars.specs.declared.value.Value.{Value}
+use Rattle.shell_vars.specs.declared.kind.FrameKind.{FrameKind}
+use Rattle.shell_vars.specs.declared.kind.FrameKind.TheVariants as opened
+use Rattle.shell_vars.specs.declared.error.VarErr.{VarErr}
+use Rattle.shell_vars.specs.declared.error.VarErr.TheVariants.{Readonly, LocalOutside}
+use Rattle.shell_vars.specs.Value.{checked, element_set, appended, element_unset}
+use Rattle.shell_vars.specs.Store.{Kind, Global, Call, Prefix, Frame, Store, no_attributes, unset_here, holder, call_depth, global_depth, target, binding_at, held_at, seen, bind_at, unbind_at, admitted}
+
+-- one global frame without names
+abbrev pub fresh : Store
+fresh = record { kind = Global; names = map.empty } ∷ []
+
+-- the value in the innermost frame that has the name; none where that is the mark or there is no such frame
+abbrev pub get : Text → Store → Option Value
+get name s = option_and_then (λ b. b.value) (seen name s)
+
+-- the attributes in the innermost frame that has the name
+abbrev pub attr : Text → Store → Attr
+attr name s = option_map_or (λ b. b.attr) (seen name s) no_attributes
+
+-- the value in the global frame
+abbrev pub global : Text → Store → Option Value
+global name s = option_and_then (λ b. b.value) (binding_at (global_depth s) name s)
+
+-- with this value of the name in the frame that has so many inside it; the binding keeps its attributes
+abbrev pub valued : ℕ → Text → Result Value VarErr → Store → Result Store VarErr
+valued i name (Ok v) s = admitted (bind_at i name (record (held_at i name s) { value = Some v }) s)
+valued i name (Err e) s = Err e
+
+-- with the value that an edit makes of the old one, unless the binding is readonly
+abbrev pub written : ℕ → Text → (Option Value → Result Value VarErr) → Store → Result Store VarErr
+written i name edit s =
+    if (held_at i name s).attr.readonly then Err Readonly else valued i name (edit (held_at i name s).value) s
+
+-- `set` writes into the innermost frame that has the name, else into the global one
+abbrev pub set : Text → Value → Store → Result Store VarErr
+set name v s = written (target name s) name (λ old. checked v) s
+
+-- `set_elem` writes an element there
+abbrev pub set_elem : Text → ℤ → Text → Store → Result Store VarErr
+set_elem name at t s = written (target name s) name (element_set at t) s
+
+-- `append` appends there
+abbrev pub append : Text → Value → Store → Result Store VarErr
+append name v s = written (target name s) name (appended v) s
+
+-- `bind` writes into the innermost frame
+abbrev pub bind : Text → Value → Store → Result Store VarErr
+bind name v s = written 0 name (λ old. checked v) s
+
+-- `set_global` writes into the global frame
+abbrev pub set_global : Text → Value → Store → Result Store VarErr
+set_global name v s = written (global_depth s) name (λ old. checked v) s
+
+-- whether the name is seen in the global frame, and is readonly there
+abbrev pub is_readonly_global : Text → Store → Bool
+is_readonly_global name s = at_holder (holder name s)
+  where
+    at_holder : Option ℕ → Bool
+    at_holder None = false
+    at_holder (Some i) = i == global_depth s && (held_at i name s).attr.readonly
+
+-- what `local` does in the frame that has so many inside it: without a value the name gets the mark there, unless it is
+-- bound there already
+abbrev pub local_at : ℕ → Text → Option Value → Store → Result Store VarErr
+local_at i name (Some v) s = written i name (λ old. checked v) s
+local_at i name None s = if is_some (binding_at i name s) then Ok s else admitted (bind_at i name unset_here s)
+
+-- `local` binds in the innermost Call frame, unless the name is seen in the global frame and readonly there
+abbrev pub local : Text → Option Value → Store → Result Store VarErr
+local name v s = in_call (call_depth s)
+  where
+    in_call : Option ℕ → Result Store VarErr
+    in_call None = Err LocalOutside
+    in_call (Some i) = if is_readonly_global name s then Err Readonly else local_at i name v s
+
+-- each attribute that one of them has
+abbrev pub both : Attr → Attr → Attr
+both a b = record { readonly = a.readonly || b.readonly; exported = a.exported || b.exported }
+
+-- `mark` adds attributes to the binding that `set` would write, and takes none away; where there is none it is the mark
+abbrev pub mark : Text → Attr → Store → Result Store VarErr
+mark name a s =
+    admitted (bind_at (target name s) name (record (held_at (target name s) name s) { attr = both (held_at (target name s) name s).attr a }) s)
+
+-- whether two depths are given and equal
+abbrev pub is_at : ℕ → Option ℕ → Bool
+is_at i None = false
+is_at i (Some j) = i == j
+
+-- what `unset` leaves: in the innermost Call frame the mark without attributes, and in another frame no binding
+abbrev pub unset_at : ℕ → Text → Store → Store
+unset_at i name s = if is_at i (call_depth s) then bind_at i name unset_here s else unbind_at i name s
+
+-- `unset` acts on the innermost frame that has the name
+abbrev pub unset : Text → Store → Result Store VarErr
+unset name s = at_holder (holder name s)
+  where
+    at_holder : Option ℕ → Result Store VarErr
+    at_holder None = Ok s
+    at_holder (Some i) = if (held_at i name s).attr.readonly then Err Readonly else Ok (unset_at i name s)
+
+-- with this value, or none, in the binding of the name
+abbrev pub revalued : ℕ → Text → Result (Option Value) VarErr → Store → Result Store VarErr
+revalued i name (Ok v) s = Ok (bind_at i name (record (held_at i name s) { value = v }) s)
+revalued i name (Err e) s = Err e
+
+-- without a name there is no element to take away, and a negative subscript has no meaning
+abbrev pub nothing_unset : Result (Option Value) VarErr → Store → Result Store VarErr
+nothing_unset (Ok v) s = Ok s
+nothing_unset (Err e) s = Err e
+
+-- `unset_elem` takes an element away from the value in the innermost frame that has the name
+abbrev pub unset_elem : Text → ℤ → Store → Result Store VarErr
+unset_elem name at s = at_holder (holder name s)
+  where
+    at_holder : Option ℕ → Result Store VarErr
+    at_holder None = nothing_unset (element_unset at None) s
+    at_holder (Some i) =
+        if (held_at i name s).attr.readonly then Err Readonly else revalued i name (element_unset at (held_at i name s).value) s
+
+-- `unset_global` removes the binding in the global frame
+abbrev pub unset_global : Text → Store → Result Store VarErr
+unset_global name s =
+    if (held_at (global_depth s) name s).attr.readonly then Err Readonly else Ok (unbind_at (global_depth s) name s)
+
+abbrev pub kind_opened : FrameKind → Kind
+kind_opened opened.Call = Call
+kind_opened opened.Prefix = Prefix
+
+-- with a frame inside all others
+abbrev pub push_frame : FrameKind → Store → Store
+push_frame kind s = record { kind = kind_opened kind; names = map.empty } ∷ s
+
+-- without the innermost frame
+abbrev pub pop_frame : Store → Store
+pop_frame [] = []
+pop_frame (f ∷ fs) = fs
+
+-- whether the innermost frame is of kind Prefix
+abbrev pub is_prefix_open : Store → Bool
+is_prefix_open [] = false
+is_prefix_open (f ∷ fs) = is_prefix f.kind
+  where
+    is_prefix : Kind → Bool
+    is_prefix Global = false
+    is_prefix Call = false
+    is_prefix Prefix = true

@@ -1,0 +1,6 @@
+pub mod Calls
+pub mod Elements
+pub mod Sorted
+pub mod Store
+pub mod Stores
+pub mod Value

@@ -1,0 +1,24 @@
+-- What variables are seen as: a list of stores, of which the present one is the first.
+use Rattle.std.specs.Prelude.{◌≡◌, List, Result, Ok, Err, refl}
+use Rattle.std.specs.Coded.{Coded, code_by, coded×, coded_list}
+use Rattle.shell_vars.specs.declared.error.VarErr.{VarErr}
+use Rattle.shell_vars.specs.declared.error.VarErr.TheVariants.{Readonly, LocalOutside, BadSubscript, ValueSize, TotalSize, Memory}
+use Rattle.shell_vars.specs.Store.{Store, store_code}
+
+-- the present store, and behind it one for each open subshell, the innermost first, which its end brings back
+pub record Stores : Type 0 where
+  pub present : Store
+  pub saved : List Store
+
+abbrev pub stores_code : Coded Stores
+stores_code =
+    code_by (Store × List Store) (coded× store_code (coded_list store_code)) (λ s. (s.present, s.saved)) (λ p. record { present = p.0; saved = p.1 }) (λ _. refl)
+
+-- a refusal is the one that is given; want of memory may come at any time
+abbrev pub Refuses : {T : Type 0} → VarErr → Result T VarErr → Type 0
+Refuses Readonly given = given ≡ Err Readonly
+Refuses LocalOutside given = given ≡ Err LocalOutside
+Refuses BadSubscript given = given ≡ Err BadSubscript
+Refuses ValueSize given = given ≡ Err ValueSize
+Refuses TotalSize given = given ≡ Err TotalSize
+Refuses Memory given = Unit {0}

@@ -1,0 +1,16 @@
+//! Shell variables: values, attributes, dynamic scope and subshells.
+#![tactic(auto)]
+
+mod attr;
+mod binding;
+mod elements;
+mod error;
+mod kind;
+mod names;
+mod value;
+
+pub use attr::Attr;
+pub use elements::Elements;
+pub use error::VarErr;
+pub use kind::FrameKind;
+pub use value::Value;
