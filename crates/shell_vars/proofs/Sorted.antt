@@ -1,13 +1,14 @@
 -- Finite maps as lists of entries whose keys rise: what a search finds there, and what an edit at its place makes.
 use Rattle.std.proofs.Common.{◌≡◌, ℕ, zero, suc, ◌+◌, ◌<◌, ◌≤◌, Bool, true, false, cond, not, T, List, [], ◌∷◌, length, get_or, set, Option, Some, None, Result, Ok, Err, refl, sym, ap, subst, ◌∙◌, arith, Ordering, Less, Equal, Greater}
 use Rattle.std.specs.Prelude.{IsTrue, ◌&&◌, sum_by}
-use Rattle.std.specs.List.{insert, remove}
+use Rattle.std.specs.List.{insert, remove, list_all}
 use Rattle.std.specs.Option.{option_map, option_map_or}
 use Rattle.std.specs.Ordering.{eq_by_cmp, is_eq, is_lt}
 use Rattle.std.specs.Cmp.{IsTotalOrder, eq_by_cmp_equiv, alike_right}
 use Rattle.std.specs.FinMap as map
-use Rattle.std.specs.FinMap.{find, put, is_sorted, same_map, same_entries_map, get-insert, get-remove, get-from_sorted, entries-from_sorted, entries-insert, get-entries, entries_sorted}
+use Rattle.std.specs.FinMap.{find, put, is_sorted, len-empty, len-entries, same_map, same_entries_map, get-insert, get-remove, get-from_sorted, entries-from_sorted, entries-insert, get-entries, entries_sorted}
 use Rattle.std.specs.FinMap.Entries.{where_key, below_all, by_order, is_sorted-put, is_sorted-where_key, find-where_key}
+use Rattle.std.proofs.lemmas.List.{nil_from_length}
 use Rattle.std.proofs.lemmas.List.Sums.{sum_by-cons}
 use Rattle.shell_vars.specs.Sorted.{place, further, by_first}
 
@@ -210,3 +211,86 @@ module _ {K X : Type 0} {R : K → K → Ordering} (o : IsTotalOrder R) (k : K) 
 
   pub total-remove : map.IsAntisymmetric R → (f : K × X → ℕ) (m : map.FinMap R X) → sum_by f (map.entries (map.remove m k)) + had f (map.get m k) ≡ sum_by f (map.entries m)
   total-remove apart f m = ap (λ es. sum_by f es + had f (map.get m k)) (entries-remove apart m) ∙ ap (λ x. sum_by f (where_key R (others R k) (map.entries m)) + had f x) (get-entries m k) ∙ sum-others apart f (map.entries m) (entries_sorted m)
+
+module _ {K X : Type 0} {R : K → K → Ordering} where
+  -- no entries are the empty map
+  pub from_sorted-nil : (es : List (K × X)) → es ≡ [] → map.from_sorted {R = R} es ≡ map.empty
+  from_sorted-nil es e = ap (map.from_sorted {R = R}) e ∙ same_entries_map _ _ (entries-from_sorted R [] tt ∙ sym (no_entries (map.empty {R = R}) (len-empty R X)))
+    where
+      no_entries : (m : map.FinMap R X) → map.len m ≡ 0 → map.entries m ≡ []
+      no_entries m e = nil_from_length _ (sym (len-entries m) ∙ e)
+
+  -- the entries of a map that is seen of rising ones
+  pub entries-seen : (es : List (K × X)) (m : map.FinMap R X) → IsTrue (is_sorted R es) → map.from_sorted es ≡ m → es ≡ map.entries m
+  entries-seen es m h e = sym (entries-from_sorted R es (told _ h)) ∙ ap map.entries e
+
+-- so many places further
+abbrev pub further_by : ℕ → Result ℕ ℕ → Result ℕ ℕ
+further_by n (Ok i) = Ok (n + i)
+further_by n (Err i) = Err (n + i)
+
+-- a test of the keys holds of each entry where it holds of those before and of the new key
+all-put : {K X : Type 0} (R : K → K → Ordering) (p : K → Bool) (k : K) (v : X) (es : List (K × X)) → T (list_all (λ e. p e.0) es) → T (p k) → T (list_all (λ e. p e.0) (put R k v es))
+all-put R p k v [] h here = both _ _ here tt
+all-put R p k v (e ∷ es) h here = elim (R k e.0) as (λ r. T (list_all (λ x. p x.0) (by_order r ((k, v) ∷ e ∷ es) ((e.0, v) ∷ es) (e ∷ put R k v es)))) [
+  | Less ↦ both _ _ here h
+  | Equal ↦ h
+  | Greater ↦ both _ _ (first (p e.0) _ h) (all-put R p k v es (second (p e.0) _ h) here)
+]
+
+all-where : {K X : Type 0} (R : K → K → Ordering) (p q : K → Bool) (es : List (K × X)) → T (list_all (λ e. p e.0) es) → T (list_all (λ e. p e.0) (where_key R q es))
+all-where R p q [] h = tt
+all-where R p q (e ∷ es) h = elim (q e.0) as (λ b. T (list_all (λ x. p x.0) (cond b (e ∷ where_key R q es) (where_key R q es)))) [
+  | true ↦ both _ _ (first (p e.0) _ h) (all-where R p q es (second (p e.0) _ h))
+  | false ↦ all-where R p q es (second (p e.0) _ h)
+]
+
+-- entries in which the key k was searched for; the search looked at them as `shown`
+module _ {K X : Type 0} {R : K → K → Ordering} (o : IsTotalOrder R) (apart : map.IsAntisymmetric R) (es shown : List (K × X)) (same : shown ≡ es) (sorted : IsTrue (is_sorted R es)) (k : K) where
+  -- what the search found is what the map has
+  pub found_value : (i : ℕ) (x : K × X) → Ok i ≡ place R k shown → i < length es → x ≡ get_or es i x → (m : map.FinMap R X) → map.from_sorted es ≡ m → Some x.1 ≡ map.get m k
+  found_value i x at within is m seen =
+      ap (λ y. Some y.1) is ∙ sym (nth_at i es x within) ∙ ap (λ r. find_by r es) (at ∙ ap (place R k) same)
+      ∙ sym (find-place o k es (told _ sorted)) ∙ sym (get-from_sorted R es k (told _ sorted)) ∙ ap (λ n. map.get n k) seen
+
+  pub missing_value : (i : ℕ) → Err i ≡ place R k shown → (m : map.FinMap R X) → map.from_sorted es ≡ m → None ≡ map.get m k
+  missing_value i at m seen =
+      ap (λ r. find_by r es) (at ∙ ap (place R k) same)
+      ∙ sym (find-place o k es (told _ sorted)) ∙ sym (get-from_sorted R es k (told _ sorted)) ∙ ap (λ n. map.get n k) seen
+
+  -- a value written at the place that was found
+  pub put_found : (i : ℕ) (v : X) (x : K × X) → Ok i ≡ place R k shown → i < length es → x ≡ get_or es i x → set es i (x.0, v) ≡ put R k v es
+  put_found i v x at within is =
+      ap (λ y. set es i (y.0, v)) is ∙ sym (with_value_at i v es x within) ∙ ap (λ r. put_by r k v es) (at ∙ ap (place R k) same) ∙ sym (put-place R k v es)
+
+  -- an entry inserted at the place where it was missed
+  pub put_missing : (i : ℕ) (v : X) → Err i ≡ place R k shown → insert es i (k, v) ≡ put R k v es
+  put_missing i v at = ap (λ r. put_by r k v es) (at ∙ ap (place R k) same) ∙ sym (put-place R k v es)
+
+  pub sorted_after : (new : List (K × X)) (v : X) → new ≡ put R k v es → IsTrue (is_sorted R new)
+  sorted_after new v e = ap (is_sorted R) e ∙ tells _ (sorted-put o k v es (told _ sorted))
+
+  pub all_after : (p : K → Bool) (new : List (K × X)) (v : X) → new ≡ put R k v es → IsTrue (list_all (λ e. p e.0) es) → IsTrue (p k) → IsTrue (list_all (λ e. p e.0) new)
+  all_after p new v e h here = ap (list_all (λ e. p e.0)) e ∙ tells _ (all-put R p k v es (told _ h) (told _ here))
+
+  pub seen_after : (new : List (K × X)) (v : X) → new ≡ put R k v es → (m : map.FinMap R X) → map.from_sorted es ≡ m → map.from_sorted new ≡ map.insert m k v
+  seen_after new v e m seen = ap (map.from_sorted {R = R}) e ∙ insert-sorted o k v es (told _ sorted) ∙ ap (λ n. map.insert n k v) seen
+
+  -- an entry taken away at the place that was found
+  pub removed : (i : ℕ) → Ok i ≡ place R k shown → remove es i ≡ where_key R (others R k) es
+  removed i at = ap (λ r. remove_by r es) (at ∙ ap (place R k) same) ∙ sym (remove-place o k es (told _ sorted))
+
+  not_removed : (i : ℕ) → Err i ≡ place R k shown → es ≡ where_key R (others R k) es
+  not_removed i at = ap (λ r. remove_by r es) (at ∙ ap (place R k) same) ∙ sym (remove-place o k es (told _ sorted))
+
+  pub sorted_without : (new : List (K × X)) → new ≡ where_key R (others R k) es → IsTrue (is_sorted R new)
+  sorted_without new e = ap (is_sorted R) e ∙ tells _ (is_sorted-where_key R (others R k) es (told _ sorted))
+
+  pub all_without : (p : K → Bool) (new : List (K × X)) → new ≡ where_key R (others R k) es → IsTrue (list_all (λ e. p e.0) es) → IsTrue (list_all (λ e. p e.0) new)
+  all_without p new e h = ap (list_all (λ e. p e.0)) e ∙ tells _ (all-where R p (others R k) es (told _ h))
+
+  pub seen_without : (new : List (K × X)) → new ≡ where_key R (others R k) es → (m : map.FinMap R X) → map.from_sorted es ≡ m → map.from_sorted new ≡ map.remove m k
+  seen_without new e m seen = ap (map.from_sorted {R = R}) e ∙ remove-sorted o k apart es (told _ sorted) ∙ ap (λ n. map.remove n k) seen
+
+  pub seen_unchanged : (i : ℕ) → Err i ≡ place R k shown → (m : map.FinMap R X) → map.from_sorted es ≡ m → m ≡ map.remove m k
+  seen_unchanged i at m seen = sym seen ∙ seen_without es (not_removed i at) m seen

@@ -1,4 +1,5 @@
 pub mod Calls
+pub mod Changes
 pub mod Elements
 pub mod Sorted
 pub mod Store

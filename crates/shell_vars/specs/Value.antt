@@ -28,7 +28,7 @@ is_short t = nat_le (length t) 1048576
 -- whether a text value, or each element of an array by itself, has at most so many
 abbrev pub are_short : Value → Bool
 are_short (value.Text t) = is_short t
-are_short (value.Array es) = list_all is_short (map.values es)
+are_short (value.Array es) = list_all (λ e. is_short e.1) (map.entries es)
 
 -- a value, where its texts are short enough
 abbrev pub checked : Value → Result Value VarErr

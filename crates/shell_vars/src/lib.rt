@@ -3,6 +3,7 @@
 
 mod attr;
 mod binding;
+mod change;
 mod elements;
 mod error;
 mod kind;

@@ -1,0 +1,7 @@
+use Rattle.std.proofs.Common.{sym, ap, ◌∙◌}
+use Rattle.std.specs.FinMap as map
+use Rattle.shell_vars.proofs.Sorted.{entries-seen}
+use Rattle.shell_vars.proofs.elements.Elements.as_slice.Goals as goal
+
+pub returns-clause-entries : goal.returns-clause-entries
+returns-clause-entries c = c.as_slice.ensures.value ∙ entries-seen _ _ c.self.invariant.0 c.self.view_is

@@ -1,0 +1,45 @@
+-- Changes of a binding, and of its size.
+use Rattle.std.specs.Prelude.{ℕ, ◌+◌, length, Option, Some, None}
+use Rattle.std.specs.Option.{option_map_or}
+use Rattle.std.specs.FinMap as map
+use Rattle.shell_vars.specs.declared.binding.Binding.{Binding}
+use Rattle.shell_vars.specs.declared.change.Change.{Change}
+use Rattle.shell_vars.specs.declared.change.Change.TheVariants.{Set, Element, Join, Without, Mark, Unset}
+use Rattle.shell_vars.specs.declared.value.Value.{Value}
+use Rattle.shell_vars.specs.declared.value.Value.TheVariants as value
+use Rattle.eb_bytes.specs.Text.{Text}
+use Rattle.shell_vars.specs.Elements.{joined, elements_size}
+use Rattle.shell_vars.specs.Value.{elements_of, value_size}
+use Rattle.shell_vars.specs.Store.{unset_here}
+use Rattle.shell_vars.specs.Calls.{both}
+
+-- the binding after a change
+abbrev pub changed : Change → Binding → Binding
+changed (Set v) b = record b { value = Some v }
+changed (Element i t) b = record b { value = Some (value.Array (map.insert (elements_of b.value) i t)) }
+changed (Join more) b = record b { value = Some (value.Array (joined (elements_of b.value) more)) }
+changed (Without i) b = record b { value = Some (value.Array (map.remove (elements_of b.value) i)) }
+changed (Mark a) b = record b { attr = both b.attr a }
+changed Unset b = unset_here
+
+-- the size of the element that has an index
+abbrev pub size_at : ℕ → Option Value → ℕ
+size_at i v = option_map_or (λ t. length t + 16) (map.get (elements_of v) i) 0
+
+-- what a change takes from the size of the value
+abbrev pub lost : Change → Binding → ℕ
+lost (Set v) b = value_size b.value
+lost (Element i t) b = size_at i b.value
+lost (Join more) b = 0
+lost (Without i) b = size_at i b.value
+lost (Mark a) b = 0
+lost Unset b = value_size b.value
+
+-- what it adds to the size
+abbrev pub gained : Change → ℕ
+gained (Set v) = value_size (Some v)
+gained (Element i t) = length t + 16
+gained (Join more) = elements_size more
+gained (Without i) = 0
+gained (Mark a) = 0
+gained Unset = 0
