@@ -16,18 +16,18 @@ turned : {A : Type 0} (b : Bool) (x y : A) → cond (not b) x y ≡ cond b y x
 turned true x y = refl
 turned false x y = refl
 
-less : (r : Ordering) → T (is_lt r) → r ≡ Less
-less Less h = refl
-less Equal h = absurd h
-less Greater h = absurd h
+pub is_less_from : (r : Ordering) → T (is_lt r) → r ≡ Less
+is_less_from Less h = refl
+is_less_from Equal h = absurd h
+is_less_from Greater h = absurd h
 
-first : (a b : Bool) → T (a && b) → T a
-first true b h = tt
-first false b h = h
+pub and_left : (a b : Bool) → T (a && b) → T a
+and_left true b h = tt
+and_left false b h = h
 
-second : (a b : Bool) → T (a && b) → T b
-second true b h = h
-second false b h = absurd h
+pub and_right : (a b : Bool) → T (a && b) → T b
+and_right true b h = h
+and_right false b h = absurd h
 
 both : (a b : Bool) → T a → T b → T (a && b)
 both true b h k = k
@@ -35,6 +35,18 @@ both false b h k = h
 
 is_less : (r : Ordering) → r ≡ Less → T (is_lt r)
 is_less r e = subst (λ x. T (is_lt x)) (sym e) tt
+
+pub and_true : (a b : Bool) → IsTrue a → IsTrue b → IsTrue (a && b)
+and_true true b h k = k
+and_true false b h k = h
+
+pub and_first : (a b : Bool) → IsTrue (a && b) → IsTrue a
+and_first true b h = refl
+and_first false b h = h
+
+pub and_second : (a b : Bool) → IsTrue (a && b) → IsTrue b
+and_second true b h = h
+and_second false b h = cc
 
 pub told : (b : Bool) → IsTrue b → T b
 told b e = subst T (sym e) tt
@@ -125,38 +137,38 @@ module _ {K X : Type 0} (R : K → K → Ordering) (k : K) where
 module _ {K X : Type 0} {R : K → K → Ordering} (o : IsTotalOrder R) where
   below_less : (x y : K) (es : List (K × X)) → R x y ≡ Less → T (below_all R y es) → T (below_all R x es)
   below_less x y [] p h = tt
-  below_less x y (e ∷ es) p h = both _ _ (is_less _ (o.trans x y e.0 p (less _ (first _ _ h)))) (below_less x y es p (second _ _ h))
+  below_less x y (e ∷ es) p h = both _ _ (is_less _ (o.trans x y e.0 p (is_less_from _ (and_left _ _ h)))) (below_less x y es p (and_right _ _ h))
 
   below_tied : (x y : K) (es : List (K × X)) → R x y ≡ Equal → T (below_all R y es) → T (below_all R x es)
   below_tied x y [] p h = tt
-  below_tied x y (e ∷ es) p h = both _ _ (is_less _ (o.congr x y e.0 p ∙ less _ (first _ _ h))) (below_tied x y es p (second _ _ h))
+  below_tied x y (e ∷ es) p h = both _ _ (is_less _ (o.congr x y e.0 p ∙ is_less_from _ (and_left _ _ h))) (below_tied x y es p (and_right _ _ h))
 
 module _ {K X : Type 0} (R : K → K → Ordering) (k : K) where
   -- a key below all others is not found
   find_below : (es : List (K × X)) → T (below_all R k es) → find R k es ≡ None
   find_below [] h = refl
-  find_below (e ∷ es) h = subst (λ r. cond (is_eq r) (Some e.1) (find R k es) ≡ None) (sym (less (R k e.0) (first _ (below_all R k es) h))) (find_below es (second (is_lt (R k e.0)) _ h))
+  find_below (e ∷ es) h = subst (λ r. cond (is_eq r) (Some e.1) (find R k es) ≡ None) (sym (is_less_from (R k e.0) (and_left _ (below_all R k es) h))) (find_below es (and_right (is_lt (R k e.0)) _ h))
 
   -- and to remove it changes nothing
   others_below : (es : List (K × X)) → T (below_all R k es) → where_key R (others R k) es ≡ es
   others_below [] h = refl
-  others_below (e ∷ es) h = subst (λ r. cond (not (is_eq r)) (e ∷ where_key R (others R k) es) (where_key R (others R k) es) ≡ e ∷ es) (sym (less (R k e.0) (first _ (below_all R k es) h))) (ap (λ t. e ∷ t) (others_below es (second (is_lt (R k e.0)) _ h)))
+  others_below (e ∷ es) h = subst (λ r. cond (not (is_eq r)) (e ∷ where_key R (others R k) es) (where_key R (others R k) es) ≡ e ∷ es) (sym (is_less_from (R k e.0) (and_left _ (below_all R k es) h))) (ap (λ t. e ∷ t) (others_below es (and_right (is_lt (R k e.0)) _ h)))
 
 module _ {K X : Type 0} {R : K → K → Ordering} (o : IsTotalOrder R) (k : K) where
   pub find-place : (es : List (K × X)) → T (is_sorted R es) → find R k es ≡ find_by (place R k es) es
   find-place [] h = refl
   find-place (e ∷ es) h = elim (R k e.0) as (λ r. R k e.0 ≡ r → cond (is_eq r) (Some e.1) (find R k es) ≡ find_by (by_first r (place R k es)) (e ∷ es)) [
-    | Less ↦ λ p. find_below R k es (below_less o k e.0 es p (first _ (is_sorted R es) h))
+    | Less ↦ λ p. find_below R k es (below_less o k e.0 es p (and_left _ (is_sorted R es) h))
     | Equal ↦ λ p. refl
-    | Greater ↦ λ p. find-place es (second (below_all R e.0 es) _ h) ∙ find_further (place R k es) e es
+    | Greater ↦ λ p. find-place es (and_right (below_all R e.0 es) _ h) ∙ find_further (place R k es) e es
   ] refl
 
   pub remove-place : (es : List (K × X)) → T (is_sorted R es) → where_key R (others R k) es ≡ remove_by (place R k es) es
   remove-place [] h = refl
   remove-place (e ∷ es) h = elim (R k e.0) as (λ r. R k e.0 ≡ r → cond (not (is_eq r)) (e ∷ where_key R (others R k) es) (where_key R (others R k) es) ≡ remove_by (by_first r (place R k es)) (e ∷ es)) [
-    | Less ↦ λ p. ap (λ t. e ∷ t) (others_below R k es (below_less o k e.0 es p (first _ (is_sorted R es) h)))
-    | Equal ↦ λ p. others_below R k es (below_tied o k e.0 es p (first _ (is_sorted R es) h))
-    | Greater ↦ λ p. ap (λ t. e ∷ t) (remove-place es (second (below_all R e.0 es) _ h)) ∙ remove_further (place R k es) e es
+    | Less ↦ λ p. ap (λ t. e ∷ t) (others_below R k es (below_less o k e.0 es p (and_left _ (is_sorted R es) h)))
+    | Equal ↦ λ p. others_below R k es (below_tied o k e.0 es p (and_left _ (is_sorted R es) h))
+    | Greater ↦ λ p. ap (λ t. e ∷ t) (remove-place es (and_right (below_all R e.0 es) _ h)) ∙ remove_further (place R k es) e es
   ] refl
 
   pub sorted-put : (v : X) (es : List (K × X)) → T (is_sorted R es) → T (is_sorted R (put R k v es))
@@ -183,17 +195,17 @@ module _ {K X : Type 0} {R : K → K → Ordering} (o : IsTotalOrder R) (k : K) 
   sum-put : map.IsAntisymmetric R → (f : K × X → ℕ) (v : X) (es : List (K × X)) → T (is_sorted R es) → sum_by f (put R k v es) + had f (find R k es) ≡ sum_by f es + f (k, v)
   sum-put apart f v [] h = omega (arith, sum_by-cons f (k, v) [])
   sum-put apart f v (e ∷ es) h = elim (R k e.0) as (λ r. R k e.0 ≡ r → sum_by f (by_order r ((k, v) ∷ e ∷ es) ((e.0, v) ∷ es) (e ∷ put R k v es)) + had f (cond (is_eq r) (Some e.1) (find R k es)) ≡ sum_by f (e ∷ es) + f (k, v)) [
-    | Less ↦ λ p. omega (arith, sum_by-cons f (k, v) (e ∷ es), none_below f es (below_less o k e.0 es p (first _ (is_sorted R es) h)))
+    | Less ↦ λ p. omega (arith, sum_by-cons f (k, v) (e ∷ es), none_below f es (below_less o k e.0 es p (and_left _ (is_sorted R es) h)))
     | Equal ↦ λ p. subst (λ x. sum_by f ((e.0, v) ∷ es) + f (x, e.1) ≡ sum_by f (e ∷ es) + f (x, v)) (sym (apart k e.0 p)) (omega (arith, sum_by-cons f (e.0, v) es, sum_by-cons f e es))
-    | Greater ↦ λ p. omega (arith, sum_by-cons f e (put R k v es), sum_by-cons f e es, sum-put apart f v es (second (below_all R e.0 es) _ h))
+    | Greater ↦ λ p. omega (arith, sum_by-cons f e (put R k v es), sum_by-cons f e es, sum-put apart f v es (and_right (below_all R e.0 es) _ h))
   ] refl
 
   sum-others : map.IsAntisymmetric R → (f : K × X → ℕ) (es : List (K × X)) → T (is_sorted R es) → sum_by f (where_key R (others R k) es) + had f (find R k es) ≡ sum_by f es
   sum-others apart f [] h = refl
   sum-others apart f (e ∷ es) h = elim (R k e.0) as (λ r. R k e.0 ≡ r → sum_by f (cond (not (is_eq r)) (e ∷ where_key R (others R k) es) (where_key R (others R k) es)) + had f (cond (is_eq r) (Some e.1) (find R k es)) ≡ sum_by f (e ∷ es)) [
-    | Less ↦ λ p. omega (arith, sum_by-cons f e (where_key R (others R k) es), sum_by-cons f e es, sum-others apart f es (second (below_all R e.0 es) _ h))
-    | Equal ↦ λ p. subst (λ x. sum_by f (where_key R (others R k) es) + f (x, e.1) ≡ sum_by f (e ∷ es)) (sym (apart k e.0 p)) (omega (arith, sum_by-cons f e es, ap (sum_by f) (others_below R k es (below_tied o k e.0 es p (first _ (is_sorted R es) h)))))
-    | Greater ↦ λ p. omega (arith, sum_by-cons f e (where_key R (others R k) es), sum_by-cons f e es, sum-others apart f es (second (below_all R e.0 es) _ h))
+    | Less ↦ λ p. omega (arith, sum_by-cons f e (where_key R (others R k) es), sum_by-cons f e es, sum-others apart f es (and_right (below_all R e.0 es) _ h))
+    | Equal ↦ λ p. subst (λ x. sum_by f (where_key R (others R k) es) + f (x, e.1) ≡ sum_by f (e ∷ es)) (sym (apart k e.0 p)) (omega (arith, sum_by-cons f e es, ap (sum_by f) (others_below R k es (below_tied o k e.0 es p (and_left _ (is_sorted R es) h)))))
+    | Greater ↦ λ p. omega (arith, sum_by-cons f e (where_key R (others R k) es), sum_by-cons f e es, sum-others apart f es (and_right (below_all R e.0 es) _ h))
   ] refl
 
   -- the entries of a map after one was inserted, or removed
@@ -235,14 +247,14 @@ all-put R p k v [] h here = both _ _ here tt
 all-put R p k v (e ∷ es) h here = elim (R k e.0) as (λ r. T (list_all (λ x. p x.0) (by_order r ((k, v) ∷ e ∷ es) ((e.0, v) ∷ es) (e ∷ put R k v es)))) [
   | Less ↦ both _ _ here h
   | Equal ↦ h
-  | Greater ↦ both _ _ (first (p e.0) _ h) (all-put R p k v es (second (p e.0) _ h) here)
+  | Greater ↦ both _ _ (and_left (p e.0) _ h) (all-put R p k v es (and_right (p e.0) _ h) here)
 ]
 
 all-where : {K X : Type 0} (R : K → K → Ordering) (p q : K → Bool) (es : List (K × X)) → T (list_all (λ e. p e.0) es) → T (list_all (λ e. p e.0) (where_key R q es))
 all-where R p q [] h = tt
 all-where R p q (e ∷ es) h = elim (q e.0) as (λ b. T (list_all (λ x. p x.0) (cond b (e ∷ where_key R q es) (where_key R q es)))) [
-  | true ↦ both _ _ (first (p e.0) _ h) (all-where R p q es (second (p e.0) _ h))
-  | false ↦ all-where R p q es (second (p e.0) _ h)
+  | true ↦ both _ _ (and_left (p e.0) _ h) (all-where R p q es (and_right (p e.0) _ h))
+  | false ↦ all-where R p q es (and_right (p e.0) _ h)
 ]
 
 -- entries in which the key k was searched for; the search looked at them as `shown`

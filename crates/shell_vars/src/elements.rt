@@ -6,6 +6,7 @@ ghost use Rattle.std.specs.FinMap as map;
 ghost use Rattle.shell_vars.specs.Elements.{have_indices, next_index, joined, can_join, element_size, elements_size};
 ghost use Rattle.std.specs.List.Sorted.{IsSearchInRange};
 ghost use Rattle.shell_vars.specs.Sorted.{place};
+ghost use Rattle.shell_vars.specs.Numbered.{numbered};
 ghost use Rattle.shell_vars.specs.Value.{is_short};
 
 use eb_bytes::{Bytes, Memory};
@@ -120,6 +121,22 @@ impl Elements {
         }
     }
 
+    /// Puts the texts of other elements behind the greatest index, in the order of theirs.
+    ///
+    /// # Errors
+    /// `Memory` where there is no room for them; the elements are as before then.
+    pub fn join(&mut self, more: Elements) -> Result<(), Memory>
+        requires { IsTrue (can_join self.old more) }
+        ensures ok { OnOk result (self.new ≡ joined self.old more) }
+        ensures err { OnErr result (self.new ≡ self.old) }
+    {
+        let start = self.next_index();
+        let Elements { mut entries } = more;
+        renumber(&mut entries, start);
+        self.entries.append(&mut entries)?;
+        Ok(())
+    }
+
     /// Equal elements.
     ///
     /// # Errors
@@ -143,6 +160,18 @@ impl Elements {
         ensures { result ≡ list_all (λ e. is_short e.1) (map.entries self.now) }
     {
         are_texts_short(self.as_slice())
+    }
+}
+
+// Gives the entries the indices from `start` on, in their order.
+fn renumber(entries: &mut [(u64, Bytes)], start: u64)
+    requires { start + length entries.old ≤ 2 ^ 63 }
+    ensures { entries.new ≡ numbered start entries.old }
+{
+    let mut at = start;
+    for entry in entries.iter_mut() {
+        entry.0 = at;
+        at += 1;
     }
 }
 
