@@ -135,6 +135,11 @@ abbrev pub kind_opened : FrameKind → Kind
 kind_opened opened.Call = Call
 kind_opened opened.Prefix = Prefix
 
+-- the frame that nothing opened is the global one
+abbrev pub kind_seen : Option FrameKind → Kind
+kind_seen None = Global
+kind_seen (Some kind) = kind_opened kind
+
 -- with a frame inside all others
 abbrev pub push_frame : FrameKind → Store → Store
 push_frame kind s = record { kind = kind_opened kind; names = map.empty } ∷ s

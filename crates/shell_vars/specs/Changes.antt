@@ -1,5 +1,5 @@
 -- Changes of a binding, and of its size.
-use Rattle.std.specs.Prelude.{ℕ, ◌+◌, length, Option, Some, None}
+use Rattle.std.specs.Prelude.{ℕ, ◌+◌, ◌^◌, ◌<◌, IsTrue, length, Option, Some, None}
 use Rattle.std.specs.Option.{option_map_or}
 use Rattle.std.specs.FinMap as map
 use Rattle.shell_vars.specs.declared.binding.Binding.{Binding}
@@ -8,7 +8,7 @@ use Rattle.shell_vars.specs.declared.change.Change.TheVariants.{Set, Element, Jo
 use Rattle.shell_vars.specs.declared.value.Value.{Value}
 use Rattle.shell_vars.specs.declared.value.Value.TheVariants as value
 use Rattle.eb_bytes.specs.Text.{Text}
-use Rattle.shell_vars.specs.Elements.{joined, elements_size}
+use Rattle.shell_vars.specs.Elements.{joined, can_join, elements_size}
 use Rattle.shell_vars.specs.Value.{elements_of, value_size}
 use Rattle.shell_vars.specs.Store.{unset_here}
 use Rattle.shell_vars.specs.Calls.{both}
@@ -43,3 +43,12 @@ gained (Join more) = elements_size more
 gained (Without i) = 0
 gained (Mark a) = 0
 gained Unset = 0
+
+-- that a change can be made: the indices are small enough, and an element that is to go is there
+abbrev pub CanChange : Change → Binding → Type 0
+CanChange (Set v) b = Unit {0}
+CanChange (Element i t) b = i < 2 ^ 63
+CanChange (Join more) b = IsTrue (can_join (elements_of b.value) more)
+CanChange (Without i) b = IsTrue (map.contains_key (elements_of b.value) i)
+CanChange (Mark a) b = Unit {0}
+CanChange Unset b = Unit {0}

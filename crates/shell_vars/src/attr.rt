@@ -1,3 +1,6 @@
+ghost use Rattle.std.specs.Prelude.{◌≡◌};
+ghost use Rattle.shell_vars.specs.Calls.{both};
+
 /// What a name is declared as (Bash Reference Manual, "Bash Builtin Commands": `export` and `readonly`).
 #[derive(Clone, Copy, Debug, PartialEq, Eq)]
 pub struct Attr {
@@ -5,4 +8,16 @@ pub struct Attr {
     pub readonly: bool,
     /// The name is handed on to the environment of commands.
     pub exported: bool,
+}
+
+impl Attr {
+    // The attributes that one of the two has.
+    pub(crate) fn with(self, other: Attr) -> Attr
+        ensures { result ≡ both self other }
+    {
+        Attr {
+            readonly: self.readonly || other.readonly,
+            exported: self.exported || other.exported,
+        }
+    }
 }

@@ -6,6 +6,7 @@ mod binding;
 mod change;
 mod elements;
 mod error;
+mod frame;
 mod kind;
 mod names;
 mod value;

@@ -80,10 +80,17 @@ pub(crate) fn element(value: &Option<Value>, at: u64) -> Option<&Bytes>
     ensures { option_copied result ≡ map.get (elements_of value.now) at }
 {
     match value {
-        Some(Value::Text(text)) if at == 0 => Some(text),
+        None => None,
+        Some(Value::Text(text)) => text_element(text, at),
         Some(Value::Array(elements)) => elements.get(at),
-        _ => None,
     }
+}
+
+// The element of a text that has this index.
+fn text_element(text: &Bytes, at: u64) -> Option<&Bytes>
+    ensures { option_copied result ≡ map.get (elements_of (Some (of.Text text.now))) at }
+{
+    if at == 0 { Some(text) } else { None }
 }
 
 /// One more than the greatest index, and 0 without elements.
@@ -166,9 +173,9 @@ pub(crate) fn take_element(alloc: Global, value: &mut Option<Value>, at: u64)
     requires { IsTrue (map.contains_key (elements_of value.old) at) }
     ensures { value.new ≡ Some (of.Array (map.remove (elements_of value.old) at)) }
 {
-    if let Some(Value::Array(elements)) = value {
-        elements.remove(at);
-    } else {
-        *value = Some(Value::Array(Elements::new(alloc)));
+    match value {
+        Some(Value::Array(elements)) => elements.remove(at),
+        Some(Value::Text(_)) => *value = Some(Value::Array(Elements::new(alloc))),
+        None => {}
     }
 }
