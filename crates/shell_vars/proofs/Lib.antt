@@ -1,6 +1,5 @@
 pub mod Behind
 pub mod Join
 pub mod NameOrder
-pub mod Outcomes
 pub mod Single
 pub mod Sorted

@@ -29,15 +29,23 @@ attr name s = option_map_or (λ b. b.attr) (seen name s) no_attributes
 abbrev pub global : Text → Store → Option Value
 global name s = option_and_then (λ b. b.value) (binding_at (global_depth s) name s)
 
--- with this value of the name in the frame that has so many inside it; the binding keeps its attributes
-abbrev pub valued : ℕ → Text → Result Value VarErr → Store → Result Store VarErr
-valued i name (Ok v) s = admitted (bind_at i name (record (held_at i name s) { value = Some v }) s)
-valued i name (Err e) s = Err e
+-- with this binding of the name in the frame that has so many inside it, where there is one and the store has room
+abbrev pub bound : ℕ → Text → Result Binding VarErr → Store → Result Store VarErr
+bound i name (Ok b) s = admitted (bind_at i name b s)
+bound i name (Err e) s = Err e
 
--- with the value that an edit makes of the old one, unless the binding is readonly
+-- a binding with this value; it keeps its attributes
+abbrev pub rebound : Result Value VarErr → Binding → Result Binding VarErr
+rebound (Ok v) b = Ok (record b { value = Some v })
+rebound (Err e) b = Err e
+
+-- a binding with the value that an edit makes of the old one, unless it is readonly
+abbrev pub rewritten : (Option Value → Result Value VarErr) → Binding → Result Binding VarErr
+rewritten edit b = if b.attr.readonly then Err Readonly else rebound (edit b.value) b
+
+-- with the name's binding rewritten in the frame that has so many inside it; one that is not there is the mark
 abbrev pub written : ℕ → Text → (Option Value → Result Value VarErr) → Store → Result Store VarErr
-written i name edit s =
-    if (held_at i name s).attr.readonly then Err Readonly else valued i name (edit (held_at i name s).value) s
+written i name edit s = bound i name (rewritten edit (held_at i name s)) s
 
 -- `set` writes into the innermost frame that has the name, else into the global one
 abbrev pub set : Text → Value → Store → Result Store VarErr
@@ -107,24 +115,31 @@ unset name s = at_holder (holder name s)
     at_holder None = Ok s
     at_holder (Some i) = if (held_at i name s).attr.readonly then Err Readonly else Ok (unset_at i name s)
 
--- with this value, or none, in the binding of the name
-abbrev pub revalued : ℕ → Text → Result (Option Value) VarErr → Store → Result Store VarErr
-revalued i name (Ok v) s = Ok (bind_at i name (record (held_at i name s) { value = v }) s)
-revalued i name (Err e) s = Err e
+-- a binding without the element that a subscript means, unless it is readonly
+abbrev pub lessened : ℤ → Binding → Result Binding VarErr
+lessened at b = if b.attr.readonly then Err Readonly else revalued (element_unset at b.value)
+  where
+    revalued : Result (Option Value) VarErr → Result Binding VarErr
+    revalued (Ok v) = Ok (record b { value = v })
+    revalued (Err e) = Err e
 
--- without a name there is no element to take away, and a negative subscript has no meaning
-abbrev pub nothing_unset : Result (Option Value) VarErr → Store → Result Store VarErr
-nothing_unset (Ok v) s = Ok s
-nothing_unset (Err e) s = Err e
+-- with this binding of the name there
+abbrev pub replaced : ℕ → Text → Result Binding VarErr → Store → Result Store VarErr
+replaced i name (Ok b) s = Ok (bind_at i name b s)
+replaced i name (Err e) s = Err e
+
+-- where the name has no binding there is no element to take away, but a negative subscript has no meaning
+abbrev pub unchanged : Result Binding VarErr → Store → Result Store VarErr
+unchanged (Ok b) s = Ok s
+unchanged (Err e) s = Err e
 
 -- `unset_elem` takes an element away from the value in the innermost frame that has the name
 abbrev pub unset_elem : Text → ℤ → Store → Result Store VarErr
 unset_elem name at s = at_holder (holder name s)
   where
     at_holder : Option ℕ → Result Store VarErr
-    at_holder None = nothing_unset (element_unset at None) s
-    at_holder (Some i) =
-        if (held_at i name s).attr.readonly then Err Readonly else revalued i name (element_unset at (held_at i name s).value) s
+    at_holder None = unchanged (lessened at unset_here) s
+    at_holder (Some i) = replaced i name (lessened at (held_at i name s)) s
 
 -- `unset_global` removes the binding in the global frame
 abbrev pub unset_global : Text → Store → Result Store VarErr

@@ -1,5 +1,5 @@
--- Changes of a binding, and of its size.
-use Rattle.std.specs.Prelude.{ℕ, ◌+◌, ◌^◌, ◌<◌, IsTrue, length, Option, Some, None}
+-- Changes of a binding and of its size, and how a call plans one.
+use Rattle.std.specs.Prelude.{◌≡◌, ℕ, ◌+◌, ◌^◌, ◌<◌, IsTrue, length, Option, Some, None, Result, Ok, Err}
 use Rattle.std.specs.Option.{option_map_or}
 use Rattle.std.specs.FinMap as map
 use Rattle.shell_vars.specs.declared.binding.Binding.{Binding}
@@ -12,6 +12,8 @@ use Rattle.shell_vars.specs.Elements.{joined, can_join, elements_size}
 use Rattle.shell_vars.specs.Value.{elements_of, value_size}
 use Rattle.shell_vars.specs.Store.{unset_here}
 use Rattle.shell_vars.specs.Calls.{both}
+use Rattle.shell_vars.specs.Stores.{Refuses}
+use Rattle.shell_vars.specs.declared.error.VarErr.{VarErr}
 
 -- the binding after a change
 abbrev pub changed : Change → Binding → Binding
@@ -52,3 +54,14 @@ CanChange (Join more) b = IsTrue (can_join (elements_of b.value) more)
 CanChange (Without i) b = IsTrue (map.contains_key (elements_of b.value) i)
 CanChange (Mark a) b = Unit {0}
 CanChange Unset b = Unit {0}
+
+-- that a call plans the change which makes this binding, or is refused as it is
+abbrev pub Plans : Result Change VarErr → Result Binding VarErr → Binding → Type 0
+Plans (Ok change) given b = (given ≡ Ok (changed change b)) × CanChange change b
+Plans (Err e) given b = Refuses e given
+
+-- the same where there may be nothing to change
+abbrev pub PlansSome : Result (Option Change) VarErr → Result Binding VarErr → Binding → Type 0
+PlansSome (Ok None) given b = given ≡ Ok b
+PlansSome (Ok (Some change)) given b = (given ≡ Ok (changed change b)) × CanChange change b × (gained change ≡ 0)
+PlansSome (Err e) given b = Refuses e given

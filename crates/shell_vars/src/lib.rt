@@ -9,6 +9,7 @@ mod error;
 mod frame;
 mod kind;
 mod names;
+mod plan;
 mod value;
 
 pub use attr::Attr;

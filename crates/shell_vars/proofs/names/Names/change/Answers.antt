@@ -6,7 +6,7 @@ use Rattle.std.specs.List.{insert}
 use Rattle.shell_vars.specs.Store.{unset_here}
 use Rattle.shell_vars.specs.Changes.{CanChange, changed}
 use Rattle.shell_vars.proofs.NameOrder.{apart}
-use Rattle.shell_vars.proofs.Outcomes.{on_ok}
+use Rattle.std.proofs.lemmas.Result.{on_ok_weaker}
 use Rattle.shell_vars.proofs.Sorted.{found_value, missing_value, put_found, put_missing, sorted_after, seen_after}
 use Rattle.shell_vars.proofs.names.Names.change.Goals as goal
 
@@ -38,7 +38,7 @@ returns-in-Ok-clause-ok c =
     let es = c.self.inside.entries.items in
     let is = found_value nat_list_cmp_total apart es _ c.as_slice.ensures.value c.self.invariant c.args.name.now c.in-Ok.place c.index_mut.result.now c.in-Ok.ensures.value (omega (arith, c.in-Ok.ensures.within)) c.index_mut.ensures.value _ c.self.view_is in
     let put = put_found nat_list_cmp_total apart es _ c.as_slice.ensures.value c.self.invariant c.args.name.now c.in-Ok.place c.change.new.self c.index_mut.result.now c.in-Ok.ensures.value (omega (arith, c.in-Ok.ensures.within)) c.index_mut.ensures.value in
-    on_ok c.change.result _ _ (λ e.
+    on_ok_weaker c.change.result (λ e.
         seen_after nat_list_cmp_total apart es _ c.as_slice.ensures.value c.self.invariant c.args.name.now _ _ put _ c.self.view_is
         ∙ ap (λ b. map.insert c.args.self.now c.args.name.now b) (e ∙ ap (λ b. changed c.args.change (unwrap_or b unset_here)) is)) c.change.ensures.ok
 
