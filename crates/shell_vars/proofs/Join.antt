@@ -55,7 +55,7 @@ pub renumbered : (es : List (ℕ × Text)) (i at : ℕ) (all : List (ℕ × Text
 renumbered es i at all h e = sym (e ∙ ap (λ r. take i es ++ numbered at r) (drop_all i es h) ∙ append-nil (take i es) ∙ take_all i es h)
 
 -- the indices of elements in their order are below the one behind the last
-under_last : (es : List (ℕ × Text)) → T (is_sorted nat_cmp es) → AllUnder (index_behind es) es
+pub under_last : (es : List (ℕ × Text)) → T (is_sorted nat_cmp es) → AllUnder (index_behind es) es
 under_last [] s = tt
 under_last (e ∷ []) s = (omega arith, tt)
 under_last (e ∷ f ∷ es) s =

@@ -1,5 +1,7 @@
 pub mod Behind
+pub mod Frames
 pub mod Join
 pub mod NameOrder
 pub mod Single
+pub mod Sizes
 pub mod Sorted

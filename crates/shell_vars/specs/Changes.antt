@@ -1,5 +1,5 @@
 -- Changes of a binding and of its size, and how a call plans one.
-use Rattle.std.specs.Prelude.{◌≡◌, ℕ, ◌+◌, ◌^◌, ◌<◌, IsTrue, length, Option, Some, None, Result, Ok, Err}
+use Rattle.std.specs.Prelude.{◌≡◌, ℕ, ◌+◌, ◌^◌, ◌<◌, IsTrue, is_some, length, if◌then◌else◌, Option, Some, None, Result, Ok, Err}
 use Rattle.std.specs.Option.{option_map_or}
 use Rattle.std.specs.FinMap as map
 use Rattle.shell_vars.specs.declared.binding.Binding.{Binding}
@@ -10,7 +10,7 @@ use Rattle.shell_vars.specs.declared.value.Value.TheVariants as value
 use Rattle.eb_bytes.specs.Text.{Text}
 use Rattle.shell_vars.specs.Elements.{joined, can_join, elements_size}
 use Rattle.shell_vars.specs.Value.{elements_of, value_size}
-use Rattle.shell_vars.specs.Store.{unset_here}
+use Rattle.shell_vars.specs.Store.{Store, unset_here, binding_at}
 use Rattle.shell_vars.specs.Calls.{both}
 use Rattle.shell_vars.specs.Stores.{Refuses}
 use Rattle.shell_vars.specs.declared.error.VarErr.{VarErr}
@@ -45,6 +45,10 @@ gained (Join more) = elements_size more
 gained (Without i) = 0
 gained (Mark a) = 0
 gained Unset = 0
+
+-- the length of a name that is not bound there yet
+abbrev pub new_name : ℕ → Text → Store → ℕ
+new_name i name s = if is_some (binding_at i name s) then 0 else length name
 
 -- that a change can be made: the indices are small enough, and an element that is to go is there
 abbrev pub CanChange : Change → Binding → Type 0

@@ -1,5 +1,5 @@
 -- Stores: lists of frames, the innermost first, the global one last (Bash Reference Manual, "Shell Functions").
-use Rattle.std.specs.Prelude.{◌≡◌, ℕ, zero, suc, ◌+◌, ◌-◌, Bool, true, false, List, [], ◌∷◌, length, nat_le, sum_by, unwrap_or, Option, Some, None, Result, Ok, Err, if◌then◌else◌, refl}
+use Rattle.std.specs.Prelude.{◌≡◌, ℕ, zero, suc, ◌+◌, ◌-◌, ◌<◌, ◌≤◌, Bool, true, false, List, [], ◌∷◌, length, nat_le, sum_by, unwrap_or, Option, Some, None, Result, Ok, Err, if◌then◌else◌, refl}
 use Rattle.std.specs.Option.{option_map, option_and_then, option_map_or}
 use Rattle.std.specs.Ordering.{nat_cmp}
 use Rattle.std.specs.Cmp.Lexicographic.{slice_cmp}
@@ -130,3 +130,9 @@ frame_code =
 
 abbrev pub store_code : Coded Store
 store_code = coded_list frame_code
+
+-- a store's bytes are counted, and there are at most as many as may be; the global frame is there
+pub record Counts (s : Store) (used : ℕ) : Type 0 where
+  pub counted : used ≡ size s
+  pub within : used ≤ 33554432
+  pub some : 0 < length s

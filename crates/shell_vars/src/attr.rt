@@ -1,5 +1,6 @@
 ghost use Rattle.std.specs.Prelude.{◌≡◌};
 ghost use Rattle.shell_vars.specs.Calls.{both};
+ghost use Rattle.shell_vars.specs.Store.{no_attributes};
 
 /// What a name is declared as (Bash Reference Manual, "Bash Builtin Commands": `export` and `readonly`).
 #[derive(Clone, Copy, Debug, PartialEq, Eq)]
@@ -11,6 +12,16 @@ pub struct Attr {
 }
 
 impl Attr {
+    // No attributes.
+    pub(crate) fn none() -> Attr
+        ensures { result ≡ no_attributes }
+    {
+        Attr {
+            readonly: false,
+            exported: false,
+        }
+    }
+
     // The attributes that one of the two has.
     pub(crate) fn with(self, other: Attr) -> Attr
         ensures { result ≡ both self other }

@@ -24,10 +24,7 @@ impl Binding {
     {
         Binding {
             value: None,
-            attr: Attr {
-                readonly: false,
-                exported: false,
-            },
+            attr: Attr::none(),
         }
     }
 

@@ -3,6 +3,7 @@
 
 mod attr;
 mod binding;
+mod calls;
 mod change;
 mod elements;
 mod error;
@@ -10,6 +11,7 @@ mod frame;
 mod kind;
 mod names;
 mod plan;
+mod store;
 mod value;
 
 pub use attr::Attr;
