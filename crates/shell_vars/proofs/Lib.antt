@@ -1,4 +1,5 @@
 pub mod Behind
+pub mod Outcomes
 pub mod Frames
 pub mod Join
 pub mod NameOrder

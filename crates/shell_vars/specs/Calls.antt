@@ -67,13 +67,14 @@ bind name v s = written 0 name (λ old. checked v) s
 abbrev pub set_global : Text → Value → Store → Result Store VarErr
 set_global name v s = written (global_depth s) name (λ old. checked v) s
 
+-- whether the frame with so many inside it is the global one, and the name is readonly there
+abbrev pub is_readonly_global_at : Option ℕ → Text → Store → Bool
+is_readonly_global_at None name s = false
+is_readonly_global_at (Some i) name s = i == global_depth s && (held_at i name s).attr.readonly
+
 -- whether the name is seen in the global frame, and is readonly there
 abbrev pub is_readonly_global : Text → Store → Bool
-is_readonly_global name s = at_holder (holder name s)
-  where
-    at_holder : Option ℕ → Bool
-    at_holder None = false
-    at_holder (Some i) = i == global_depth s && (held_at i name s).attr.readonly
+is_readonly_global name s = is_readonly_global_at (holder name s) name s
 
 -- what `local` does in the frame that has so many inside it: without a value the name gets the mark there, unless it is
 -- bound there already
@@ -81,13 +82,14 @@ abbrev pub local_at : ℕ → Text → Option Value → Store → Result Store V
 local_at i name (Some v) s = written i name (λ old. checked v) s
 local_at i name None s = if is_some (binding_at i name s) then Ok s else admitted (bind_at i name unset_here s)
 
--- `local` binds in the innermost Call frame, unless the name is seen in the global frame and readonly there
+-- without a Call frame there is nothing to bind in; and a name that is seen in the global frame and readonly there stays
+abbrev pub local_in : Option ℕ → Text → Option Value → Store → Result Store VarErr
+local_in None name v s = Err LocalOutside
+local_in (Some i) name v s = if is_readonly_global name s then Err Readonly else local_at i name v s
+
+-- `local` binds in the innermost Call frame
 abbrev pub local : Text → Option Value → Store → Result Store VarErr
-local name v s = in_call (call_depth s)
-  where
-    in_call : Option ℕ → Result Store VarErr
-    in_call None = Err LocalOutside
-    in_call (Some i) = if is_readonly_global name s then Err Readonly else local_at i name v s
+local name v s = local_in (call_depth s) name v s
 
 -- each attribute that one of them has
 abbrev pub both : Attr → Attr → Attr
@@ -107,21 +109,23 @@ is_at i (Some j) = i == j
 abbrev pub unset_at : ℕ → Text → Store → Store
 unset_at i name s = if is_at i (call_depth s) then bind_at i name unset_here s else unbind_at i name s
 
+-- without a frame that has the name nothing changes
+abbrev pub unset_in : Option ℕ → Text → Store → Result Store VarErr
+unset_in None name s = Ok s
+unset_in (Some i) name s = if (held_at i name s).attr.readonly then Err Readonly else Ok (unset_at i name s)
+
 -- `unset` acts on the innermost frame that has the name
 abbrev pub unset : Text → Store → Result Store VarErr
-unset name s = at_holder (holder name s)
-  where
-    at_holder : Option ℕ → Result Store VarErr
-    at_holder None = Ok s
-    at_holder (Some i) = if (held_at i name s).attr.readonly then Err Readonly else Ok (unset_at i name s)
+unset name s = unset_in (holder name s) name s
+
+-- a binding with this value, or none
+abbrev pub revalued : Result (Option Value) VarErr → Binding → Result Binding VarErr
+revalued (Ok v) b = Ok (record b { value = v })
+revalued (Err e) b = Err e
 
 -- a binding without the element that a subscript means, unless it is readonly
 abbrev pub lessened : ℤ → Binding → Result Binding VarErr
-lessened at b = if b.attr.readonly then Err Readonly else revalued (element_unset at b.value)
-  where
-    revalued : Result (Option Value) VarErr → Result Binding VarErr
-    revalued (Ok v) = Ok (record b { value = v })
-    revalued (Err e) = Err e
+lessened at b = if b.attr.readonly then Err Readonly else revalued (element_unset at b.value) b
 
 -- with this binding of the name there
 abbrev pub replaced : ℕ → Text → Result Binding VarErr → Store → Result Store VarErr
@@ -133,13 +137,14 @@ abbrev pub unchanged : Result Binding VarErr → Store → Result Store VarErr
 unchanged (Ok b) s = Ok s
 unchanged (Err e) s = Err e
 
+-- without a frame that has the name nothing changes
+abbrev pub unset_elem_in : Option ℕ → Text → ℤ → Store → Result Store VarErr
+unset_elem_in None name at s = unchanged (lessened at unset_here) s
+unset_elem_in (Some i) name at s = replaced i name (lessened at (held_at i name s)) s
+
 -- `unset_elem` takes an element away from the value in the innermost frame that has the name
 abbrev pub unset_elem : Text → ℤ → Store → Result Store VarErr
-unset_elem name at s = at_holder (holder name s)
-  where
-    at_holder : Option ℕ → Result Store VarErr
-    at_holder None = unchanged (lessened at unset_here) s
-    at_holder (Some i) = replaced i name (lessened at (held_at i name s)) s
+unset_elem name at s = unset_elem_in (holder name s) name at s
 
 -- `unset_global` removes the binding in the global frame
 abbrev pub unset_global : Text → Store → Result Store VarErr

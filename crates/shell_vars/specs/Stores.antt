@@ -1,5 +1,5 @@
 -- What variables are seen as: a list of stores, of which the present one is the first.
-use Rattle.std.specs.Prelude.{◌≡◌, List, Result, Ok, Err, refl}
+use Rattle.std.specs.Prelude.{◌≡◌, List, [], ◌∷◌, Result, Ok, Err, refl}
 use Rattle.std.specs.Coded.{Coded, code_by, coded×, coded_list}
 use Rattle.shell_vars.specs.declared.error.VarErr.{VarErr}
 use Rattle.shell_vars.specs.declared.error.VarErr.TheVariants.{Readonly, LocalOutside, BadSubscript, ValueSize, TotalSize, Memory}
@@ -22,3 +22,16 @@ Refuses BadSubscript given = given ≡ Err BadSubscript
 Refuses ValueSize given = given ≡ Err ValueSize
 Refuses TotalSize given = given ≡ Err TotalSize
 Refuses Memory given = Unit {0}
+
+-- with the present store kept for the end of a subshell
+abbrev pub open_sub : Stores → Stores
+open_sub s = record s { saved = s.present ∷ s.saved }
+
+-- with the store that was kept last, if there is one
+abbrev pub brought_back : List Store → Stores → Stores
+brought_back [] s = s
+brought_back (store ∷ stores) s = record { present = store; saved = stores }
+
+-- at the end of the innermost subshell
+abbrev pub drop_sub : Stores → Stores
+drop_sub s = brought_back s.saved s

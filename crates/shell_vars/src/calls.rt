@@ -12,7 +12,7 @@ use crate::attr::Attr;
 use crate::binding::Binding;
 use crate::change::Change;
 use crate::error::VarErr;
-use crate::plan::{plan_append, plan_element, plan_set, plan_without};
+use crate::plan::{plan_append, plan_element, plan_nowhere, plan_set, plan_without};
 use crate::store::Store;
 use crate::value::Value;
 use eb_bytes::Bytes;
@@ -271,7 +271,7 @@ impl Store {
         ensures unchanged { OnErr result (self.new ≡ self.old) }
     {
         let Some(depth) = self.holder(name) else {
-            return check_without(at);
+            return plan_nowhere(at);
         };
         match self.plan_without_at(depth, name, at)? {
             Some(change) => self.lessen(depth, name, change),
@@ -291,17 +291,5 @@ impl Store {
         }
         self.unbind(depth, name);
         Ok(())
-    }
-}
-
-// Where a name has no binding, an element that is to go must at least have a place.
-fn check_without(at: i64) -> Result<(), VarErr>
-    ensures ok { OnOk result (lessened at unset_here ≡ Ok unset_here) }
-    ensures refused { IfErr result (λ e. Refuses e (lessened at unset_here)) }
-{
-    let mark = Binding::unset_here();
-    match plan_without(&mark, at) {
-        Ok(_) => Ok(()),
-        Err(refusal) => Err(refusal),
     }
 }

@@ -13,9 +13,11 @@ mod names;
 mod plan;
 mod store;
 mod value;
+mod vars;
 
 pub use attr::Attr;
 pub use elements::Elements;
 pub use error::VarErr;
 pub use kind::FrameKind;
 pub use value::Value;
+pub use vars::Vars;

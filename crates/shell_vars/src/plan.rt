@@ -1,8 +1,10 @@
-ghost use Rattle.std.specs.Prelude.{◌≡◌, ◌^◌, ◌<◌, ◌++◌, [], unwrap_or, IfOk, IfSome, Some};
+ghost use Rattle.std.specs.Prelude.{◌≡◌, ◌^◌, ◌<◌, ◌++◌, [], unwrap_or, IfOk, IfErr, IfSome, OnOk, Some};
 ghost use Rattle.std.specs.FinMap as map;
 ghost use Rattle.shell_vars.specs.Elements.{index_of};
 ghost use Rattle.shell_vars.specs.Value.{elements_of, checked, with_element, element_set, appended};
 ghost use Rattle.shell_vars.specs.Calls.{rebound, rewritten, lessened};
+ghost use Rattle.shell_vars.specs.Store.{unset_here};
+ghost use Rattle.shell_vars.specs.Stores.{Refuses};
 ghost use Rattle.shell_vars.specs.Changes.{Plans, PlansSome};
 ghost use Rattle.shell_vars.specs.declared.value.Value.TheVariants as of;
 
@@ -64,6 +66,17 @@ pub(crate) fn plan_without(held: &Binding, at: i64) -> Result<Option<Change>, Va
         Ok(Some(Change::Without(index)))
     } else {
         Ok(None)
+    }
+}
+
+/// That the mark has no element to lose, though a negative subscript has no meaning there.
+pub(crate) fn plan_nowhere(at: i64) -> Result<(), VarErr>
+    ensures ok { OnOk result (lessened at unset_here ≡ Ok unset_here) }
+    ensures refused { IfErr result (λ e. Refuses e (lessened at unset_here)) }
+{
+    match index(&None, at) {
+        Some(_) => Ok(()),
+        None => Err(VarErr::BadSubscript),
     }
 }
 
