@@ -169,12 +169,12 @@ abbrev pub pop_frame : Store → Store
 pop_frame [] = []
 pop_frame (f ∷ fs) = fs
 
+abbrev pub is_prefix : Kind → Bool
+is_prefix Global = false
+is_prefix Call = false
+is_prefix Prefix = true
+
 -- whether the innermost frame is of kind Prefix
 abbrev pub is_prefix_open : Store → Bool
 is_prefix_open [] = false
 is_prefix_open (f ∷ fs) = is_prefix f.kind
-  where
-    is_prefix : Kind → Bool
-    is_prefix Global = false
-    is_prefix Call = false
-    is_prefix Prefix = true

@@ -23,6 +23,16 @@ Refuses ValueSize given = given ≡ Err ValueSize
 Refuses TotalSize given = given ≡ Err TotalSize
 Refuses Memory given = Unit {0}
 
+-- the answer is not that memory is wanted
+abbrev pub IsNoWant : {T : Type 0} → Result T VarErr → Type 0
+IsNoWant (Ok x) = Unit {0}
+IsNoWant (Err Readonly) = Unit {0}
+IsNoWant (Err LocalOutside) = Unit {0}
+IsNoWant (Err BadSubscript) = Unit {0}
+IsNoWant (Err ValueSize) = Unit {0}
+IsNoWant (Err TotalSize) = Unit {0}
+IsNoWant (Err Memory) = ⊥
+
 -- with the present store kept for the end of a subshell
 abbrev pub open_sub : Stores → Stores
 open_sub s = record s { saved = s.present ∷ s.saved }

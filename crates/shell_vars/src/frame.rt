@@ -2,7 +2,7 @@ ghost use Rattle.std.specs.Prelude.{◌≡◌, ◌-◌, ◌^◌, min, unwrap_or,
 ghost use Rattle.std.specs.Option.{option_copied};
 ghost use Rattle.std.specs.FinMap as map;
 ghost use Rattle.shell_vars.specs.Store.{unset_here, names_size, is_call};
-ghost use Rattle.shell_vars.specs.Calls.{kind_seen};
+ghost use Rattle.shell_vars.specs.Calls.{kind_seen, is_prefix};
 ghost use Rattle.shell_vars.specs.Changes.{changed, CanChange};
 
 use crate::binding::Binding;
@@ -47,6 +47,13 @@ impl Frame {
         ensures { result ≡ is_call self.now.kind }
     {
         matches!(self.kind, Some(FrameKind::Call))
+    }
+
+    /// Whether assignments before a command opened it.
+    pub(crate) fn is_prefix(&self) -> bool
+        ensures { result ≡ is_prefix self.now.kind }
+    {
+        matches!(self.kind, Some(FrameKind::Prefix))
     }
 
     /// The binding of a name.

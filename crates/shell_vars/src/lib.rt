@@ -3,6 +3,7 @@
 
 mod attr;
 mod binding;
+mod call;
 mod calls;
 mod change;
 mod elements;
@@ -12,10 +13,13 @@ mod kind;
 mod names;
 mod plan;
 mod store;
+#[cfg(test)]
+mod tests;
 mod value;
 mod vars;
 
 pub use attr::Attr;
+pub use call::{Call, run_calls};
 pub use elements::Elements;
 pub use error::VarErr;
 pub use kind::FrameKind;

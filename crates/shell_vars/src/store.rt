@@ -3,7 +3,7 @@ ghost use Rattle.std.specs.Option.{option_copied};
 ghost use Rattle.shell_vars.specs.Store.{holder as holder_of, call_depth as call_depth_of, target as target_of, global_depth, binding_at, held_at, bind_at, unbind_at, unset_here, size, admitted};
 ghost use Rattle.shell_vars.specs.Stores.{Refuses};
 ghost use Rattle.shell_vars.specs.Changes.{changed, CanChange, new_name, lost as loses, gained as gains};
-ghost use Rattle.shell_vars.specs.Calls.{fresh, push_frame as pushed, pop_frame as popped};
+ghost use Rattle.shell_vars.specs.Calls.{fresh, is_prefix_open as prefix_open, push_frame as pushed, pop_frame as popped};
 
 use crate::binding::Binding;
 use crate::change::Change;
@@ -195,6 +195,23 @@ impl Store {
             Some(binding) => name.len() as u64 + size_of(&binding.value),
             None => 0,
         }
+    }
+
+    /// Whether the innermost frame is of kind Prefix.
+    pub(crate) fn is_prefix_open(&self) -> bool
+        ensures { result ≡ prefix_open self.now }
+    {
+        match self.frames.front() {
+            Some(frame) => frame.is_prefix(),
+            None => false,
+        }
+    }
+
+    /// Whether a frame inside the global one is open.
+    pub(crate) fn is_frame_open(&self) -> bool
+        ensures { IsTrue result ↔ (1 < length self.now) }
+    {
+        self.frames.len() > 1
     }
 
     /// Opens a frame inside all others.

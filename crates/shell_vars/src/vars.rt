@@ -1,4 +1,4 @@
-ghost use Rattle.std.specs.Prelude.{◌≡◌, ◌<◌, ◌≤◌, ◌∷◌, [], length, is_some, IsTrue, IfOk, IfErr, OnOk, OnErr};
+ghost use Rattle.std.specs.Prelude.{◌≡◌, ◌↔◌, ◌<◌, ◌≤◌, ◌∷◌, [], length, is_some, IsTrue, IfOk, IfErr, OnOk, OnErr};
 ghost use Rattle.std.specs.Option.{option_copied};
 ghost use Rattle.shell_vars.specs.Store.{size};
 ghost use Rattle.shell_vars.specs.Stores.{Refuses, open_sub, drop_sub};
@@ -231,6 +231,27 @@ impl Vars {
         ensures { self.new ≡ record self.old { present = call.pop_frame self.old.present } }
     {
         self.present.pop_frame();
+    }
+
+    /// Whether the innermost frame is of kind Prefix, as `bind` asks.
+    pub fn is_prefix_open(&self) -> bool
+        ensures { result ≡ call.is_prefix_open self.now.present }
+    {
+        self.present.is_prefix_open()
+    }
+
+    /// Whether a frame inside the global one is open, as `pop_frame` asks.
+    pub fn is_frame_open(&self) -> bool
+        ensures { IsTrue result ↔ (1 < length self.now.present) }
+    {
+        self.present.is_frame_open()
+    }
+
+    /// Whether a subshell is open, as `drop_sub` asks.
+    pub fn is_sub_open(&self) -> bool
+        ensures { IsTrue result ↔ (0 < length self.now.saved) }
+    {
+        !self.saved.is_empty()
     }
 
     /// Opens a subshell: keeps a copy of the store for its end.
