@@ -52,12 +52,7 @@ impl Store {
     }
 
     // How it loses an element, if it has that.
-    fn plan_without_at(
-        &self,
-        depth: usize,
-        name: &[u8],
-        at: i64,
-    ) -> Result<Option<Change>, VarErr>
+    fn plan_without_at(&self, depth: usize, name: &[u8], at: i64) -> Result<Option<Change>, VarErr>
         requires { depth < length self.now }
         ensures { PlansSome result (lessened at (held_at depth name.now self.now)) (held_at depth name.now self.now) }
     {

@@ -222,8 +222,7 @@ impl Store {
         ensures ok { OnOk result (self.new ≡ pushed kind self.old) }
         ensures err { OnErr result (self.new ≡ self.old) }
     {
-        self.frames
-            .push_front(Frame::new(self.alloc, Some(kind)))?;
+        self.frames.push_front(Frame::new(self.alloc, Some(kind)))?;
         Ok(())
     }
 

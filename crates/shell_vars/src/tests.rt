@@ -271,7 +271,11 @@ fn assign(alloc: Global, vars: &mut Vars, word: &[u8]) -> Result<&'static [u8], 
         b'a' => answer(vars.append(name, Value::Text(whole))),
         b'A' => answer(vars.append(name, Value::Array(array(alloc, text)?))),
         b'l' => answer(vars.local(name, Some(Value::Text(whole)))),
-        b'e' => answer(vars.set_elem(name, subscript(first(text)), Bytes::from_slice(alloc, rest(text))?)),
+        b'e' => answer(vars.set_elem(
+            name,
+            subscript(first(text)),
+            Bytes::from_slice(alloc, rest(text))?,
+        )),
         _ => bind(vars, name, whole),
     })
 }
@@ -402,4 +406,149 @@ fn histories_have_these_answers(rt: HostRuntime) {
         let said = answers(rt.alloc(), history).expect(&rt, "memory");
         assert!(rt; said.as_slice() == want, "at {history:?}");
     }
+}
+
+// So many bytes.
+fn filled(alloc: Global, count: usize) -> Result<Bytes, Memory> {
+    let mut text = Bytes::new(alloc);
+    for _ in 0..count / 4096 {
+        text.extend(&[b'a'; 4096])?;
+    }
+    for _ in 0..count % 4096 {
+        text.extend(b"a")?;
+    }
+    Ok(text)
+}
+
+fn text(alloc: Global, count: usize) -> Result<Value, Memory> {
+    Ok(Value::Text(filled(alloc, count)?))
+}
+
+// The answers of sizes at and above the limit of one text.
+fn sizes_of_texts(alloc: Global) -> Result<Bytes, Memory> {
+    let mut vars = Vars::new(alloc)?;
+    let mut all = Bytes::new(alloc);
+    all.extend(answer(vars.set(b"x", text(alloc, 1_048_577)?)))?;
+    all.extend(answer(vars.set(b"x", text(alloc, 1_048_576)?)))?;
+    all.extend(answer(vars.append(b"x", text(alloc, 1)?)))?;
+    all.extend(answer(vars.append(b"x", text(alloc, 0)?)))?;
+    all.extend(answer(vars.set_elem(b"y", 3, filled(alloc, 1_048_577)?)))?;
+    all.extend(answer(vars.set_elem(b"y", 3, filled(alloc, 1_048_576)?)))?;
+    all.extend(answer(vars.append(b"y", text(alloc, 1_048_577)?)))?;
+    all.extend(answer(vars.append(b"y", text(alloc, 1)?)))?;
+    all.extend(answer(vars.set_elem(b"y", -9, filled(alloc, 1_048_577)?)))?;
+    all.extend(answer(vars.local(b"z", Some(text(alloc, 1_048_577)?))))?;
+    all.extend(decimal(alloc, vars.bytes_used())?.as_slice())?;
+    Ok(all)
+}
+
+// x takes 1 + 1048576 + 16 bytes, y 1 + 1048576 + 16 + 1 + 16. The second subscript is bad before its text is too long.
+#[test]
+fn texts_have_a_limit(rt: HostRuntime) {
+    let said = sizes_of_texts(rt.alloc()).expect(&rt, "memory");
+    assert!(rt; said.as_slice() == b"VVVVBL2097203".as_slice());
+}
+
+const NAMES: &[u8] = b"abcdefghijklmnopqrstuvwxyzABCDE";
+
+// 31 texts of the greatest length take 32,506,383 bytes; 1,048,049 are left.
+fn nearly_full(alloc: Global) -> Result<Vars, Memory> {
+    let mut vars = Vars::new(alloc)?;
+    for name in NAMES {
+        let _ = vars.set(&[*name], text(alloc, 1_048_576)?);
+    }
+    Ok(vars)
+}
+
+// The answers of calls at the limit of all.
+fn sizes_of_all(alloc: Global) -> Result<Bytes, Memory> {
+    let mut vars = nearly_full(alloc)?;
+    let mut all = Bytes::new(alloc);
+    all.extend(answer(vars.set(b"F", text(alloc, 1_048_033)?)))?;
+    all.extend(answer(vars.set(b"F", text(alloc, 1_048_032)?)))?;
+    all.extend(answer(vars.mark(b"G", attributes(true))))?;
+    all.extend(answer(vars.mark(b"F", attributes(false))))?;
+    all.extend(answer(vars.append(b"F", text(alloc, 1)?)))?;
+    all.extend(answer(vars.set_elem(b"F", 1, Bytes::new(alloc))))?;
+    all.extend(opened(vars.push_frame(FrameKind::Call)))?;
+    all.extend(answer(vars.local(b"G", None)))?;
+    all.extend(answer(vars.set_elem(b"F", 0, filled(alloc, 1_048_015)?)))?;
+    all.extend(answer(vars.local(b"G", None)))?;
+    all.extend(decimal(alloc, vars.bytes_used())?.as_slice())?;
+    Ok(all)
+}
+
+#[test]
+fn all_bindings_have_a_limit(rt: HostRuntime) {
+    let said = sizes_of_all(rt.alloc()).expect(&rt, "memory");
+    assert!(rt; said.as_slice() == b"TTTTT33554416".as_slice());
+}
+
+// x=$x$x again and again, from 16 bytes on.
+fn doublings(alloc: Global) -> Result<Bytes, Memory> {
+    let mut vars = Vars::new(alloc)?;
+    let mut all = Bytes::new(alloc);
+    all.extend(answer(vars.set(b"x", text(alloc, 16)?)))?;
+    for _ in 0..17 {
+        let twice = match vars.get(b"x") {
+            Some(value) => value.copy(alloc)?,
+            None => text(alloc, 0)?,
+        };
+        all.extend(answer(vars.append(b"x", twice)))?;
+    }
+    all.extend(decimal(alloc, vars.bytes_used())?.as_slice())?;
+    Ok(all)
+}
+
+#[test]
+fn a_text_doubles_sixteen_times(rt: HostRuntime) {
+    let said = doublings(rt.alloc()).expect(&rt, "memory");
+    assert!(rt; said.as_slice() == b"V1048593".as_slice());
+}
+
+fn named(alloc: Global) -> Result<Bytes, Memory> {
+    Bytes::from_slice(alloc, b"x")
+}
+
+// Calls as values: a local name in a subshell, whose end comes after that of the call.
+fn calls(alloc: Global) -> Result<Vec<Call>, Memory> {
+    let mut all = Vec::new(alloc);
+    all.push(Call::Set(named(alloc)?, text(alloc, 1)?))?;
+    all.push(Call::OpenSub)?;
+    all.push(Call::PushFrame(FrameKind::Call))?;
+    all.push(Call::Local(named(alloc)?, Some(text(alloc, 2)?)))?;
+    all.push(Call::PopFrame)?;
+    all.push(Call::PopFrame)?;
+    all.push(Call::Append(named(alloc)?, text(alloc, 1)?))?;
+    all.push(Call::Mark(named(alloc)?, attributes(true)))?;
+    all.push(Call::SetGlobal(named(alloc)?, text(alloc, 9)?))?;
+    Ok(all)
+}
+
+fn run_both(alloc: Global) -> Result<Bytes, Memory> {
+    let mut vars = Vars::new(alloc)?;
+    run_calls(&mut vars, calls(alloc)?)?;
+    let mut all = written(alloc, vars.get(b"x"))?;
+    all.extend(written_attr(vars.attr(b"x")))?;
+    run_calls(&mut vars, after_calls(alloc)?)?;
+    all.extend(written(alloc, vars.get(b"x"))?.as_slice())?;
+    Ok(all)
+}
+
+fn after_calls(alloc: Global) -> Result<Vec<Call>, Memory> {
+    let mut all = Vec::new(alloc);
+    all.push(Call::DropSub)?;
+    all.push(Call::DropSub)?;
+    all.push(Call::Bind(named(alloc)?, text(alloc, 7)?))?;
+    all.push(Call::SetElem(named(alloc)?, 1, named(alloc)?))?;
+    all.push(Call::UnsetElem(named(alloc)?, 0))?;
+    all.push(Call::Unset(Bytes::new(alloc)))?;
+    all.push(Call::UnsetGlobal(Bytes::new(alloc)))?;
+    Ok(all)
+}
+
+#[test]
+fn lists_of_calls_are_made(rt: HostRuntime) {
+    let said = run_both(rt.alloc()).expect(&rt, "memory");
+    assert!(rt; said.as_slice() == b"aar1x".as_slice());
 }

@@ -14,17 +14,19 @@ pub invariant_of-self : goal.invariant_of-self
 invariant_of-self c =
     let es = c.self.inside.entries.items in
     let sorted = c.self.invariant.0 in
-    let put = put_found nat_cmp_total nat_cmp-IsAntisymmetric es _ c.as_slice.ensures.value sorted c.args.at c.in-Ok.place c.args.text c.index_mut.result.now c.in-Ok.ensures.value (omega (arith, c.in-Ok.ensures.within)) c.index_mut.ensures.value in
-    (sorted_after nat_cmp_total nat_cmp-IsAntisymmetric es _ c.as_slice.ensures.value sorted c.args.at _ _ put,
-     all_after nat_cmp_total nat_cmp-IsAntisymmetric es _ c.as_slice.ensures.value sorted c.args.at is_index _ _ put c.self.invariant.1 (small c.args.at c.requires))
+    let put = put_found nat_cmp_total nat_cmp-IsAntisymmetric es _ c.as_slice.ensures.value sorted c.args.at c.in-Ok.place c.args.text c.index_mut.result.now c.in-Ok.ensures.value (omega (arith, c.in-Ok.ensures.within)) c.index_mut.ensures.value in (
+      sorted_after nat_cmp_total nat_cmp-IsAntisymmetric es _ c.as_slice.ensures.value sorted c.args.at _ _ put,
+      all_after nat_cmp_total nat_cmp-IsAntisymmetric es _ c.as_slice.ensures.value sorted c.args.at is_index _ _ put c.self.invariant.1 (small c.args.at c.requires),
+    )
 
 pub invariant_of-self-in-Err : goal.invariant_of-self-in-Err
 invariant_of-self-in-Err c =
     let es = c.self.inside.entries.items in
     let sorted = c.self.invariant.0 in
-    let put = c.in_ok-insert-in-Err.ensures.items ∙ put_missing nat_cmp_total nat_cmp-IsAntisymmetric es _ c.as_slice.ensures.value sorted c.args.at c.in-Err.place c.args.text c.in-Err.ensures.value in
-    (sorted_after nat_cmp_total nat_cmp-IsAntisymmetric es _ c.as_slice.ensures.value sorted c.args.at _ _ put,
-     all_after nat_cmp_total nat_cmp-IsAntisymmetric es _ c.as_slice.ensures.value sorted c.args.at is_index _ _ put c.self.invariant.1 (small c.args.at c.requires))
+    let put = c.in_ok-insert-in-Err.ensures.items ∙ put_missing nat_cmp_total nat_cmp-IsAntisymmetric es _ c.as_slice.ensures.value sorted c.args.at c.in-Err.place c.args.text c.in-Err.ensures.value in (
+      sorted_after nat_cmp_total nat_cmp-IsAntisymmetric es _ c.as_slice.ensures.value sorted c.args.at _ _ put,
+      all_after nat_cmp_total nat_cmp-IsAntisymmetric es _ c.as_slice.ensures.value sorted c.args.at is_index _ _ put c.self.invariant.1 (small c.args.at c.requires),
+    )
 
 pub returns-in-Ok-clause-ok : goal.returns-in-Ok-clause-ok
 returns-in-Ok-clause-ok c =

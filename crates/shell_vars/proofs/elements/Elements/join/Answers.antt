@@ -20,16 +20,17 @@ invariant_of-self-2 c =
     let is = entries-seen _ _ c.more.invariant.0 c.more.view_is in
     let more : length fs ≡ map.len c.args.more = ap length is ∙ sym (len-entries c.args.more) in
     let new : c.append.new.self.items ≡ es ++ numbered (next_index c.args.self.now) fs =
-        c.in_ok-append.ensures.items ∙ ap (λ x. es ++ x) (rewritten _ _ _ fs _ c.renumber.ensures c.deref_mut.ensures.value c.deref_mut.ensures.len)
-        ∙ ap (λ n. es ++ numbered n fs) c.next_index-start.ensures.value in
-    (joined_is_sorted es fs c.args.self.now c.args.more c.self.invariant.0 c.self.view_is is _ new,
-     joined_has_indices es fs c.args.self.now c.args.more c.self.invariant.0 c.self.view_is is _ new c.self.invariant.1 (grind (arith, nat_tests, c.requires)))
+    c.in_ok-append.ensures.items ∙ ap (λ x. es ++ x) (rewritten _ _ _ fs _ c.renumber.ensures c.deref_mut.ensures.value c.deref_mut.ensures.len)
+    ∙ ap (λ n. es ++ numbered n fs) c.next_index-start.ensures.value in (
+      joined_is_sorted es fs c.args.self.now c.args.more c.self.invariant.0 c.self.view_is is _ new,
+      joined_has_indices es fs c.args.self.now c.args.more c.self.invariant.0 c.self.view_is is _ new c.self.invariant.1 (grind (arith, nat_tests, c.requires)),
+    )
 
 pub returns-clause-ok : goal.returns-clause-ok
 returns-clause-ok c =
     let es = c.self.inside.entries.items in
     let fs = c.more.inside.entries.items in
     let new : c.append.new.self.items ≡ es ++ numbered (next_index c.args.self.now) fs =
-        c.in_ok-append.ensures.items ∙ ap (λ x. es ++ x) (rewritten _ _ _ fs _ c.renumber.ensures c.deref_mut.ensures.value c.deref_mut.ensures.len)
-        ∙ ap (λ n. es ++ numbered n fs) c.next_index-start.ensures.value in
+    c.in_ok-append.ensures.items ∙ ap (λ x. es ++ x) (rewritten _ _ _ fs _ c.renumber.ensures c.deref_mut.ensures.value c.deref_mut.ensures.len)
+    ∙ ap (λ n. es ++ numbered n fs) c.next_index-start.ensures.value in
     joined_is_seen es fs c.args.self.now c.args.more c.self.invariant.0 c.self.view_is (entries-seen _ _ c.more.invariant.0 c.more.view_is) _ new

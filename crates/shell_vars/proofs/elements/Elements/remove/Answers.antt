@@ -9,9 +9,10 @@ pub invariant_of-self : goal.invariant_of-self
 invariant_of-self c =
     let es = c.self.inside.entries.items in
     let sorted = c.self.invariant.0 in
-    let left = c.remove.ensures.items ∙ removed nat_cmp_total nat_cmp-IsAntisymmetric es _ c.as_slice.ensures.value sorted c.args.at c.in-Ok.place c.in-Ok.ensures.value in
-    (sorted_without nat_cmp_total nat_cmp-IsAntisymmetric es _ c.as_slice.ensures.value sorted c.args.at _ left,
-     all_without nat_cmp_total nat_cmp-IsAntisymmetric es _ c.as_slice.ensures.value sorted c.args.at is_index _ left c.self.invariant.1)
+    let left = c.remove.ensures.items ∙ removed nat_cmp_total nat_cmp-IsAntisymmetric es _ c.as_slice.ensures.value sorted c.args.at c.in-Ok.place c.in-Ok.ensures.value in (
+      sorted_without nat_cmp_total nat_cmp-IsAntisymmetric es _ c.as_slice.ensures.value sorted c.args.at _ left,
+      all_without nat_cmp_total nat_cmp-IsAntisymmetric es _ c.as_slice.ensures.value sorted c.args.at is_index _ left c.self.invariant.1,
+    )
 
 pub returns-in-Ok : goal.returns-in-Ok
 returns-in-Ok c =
