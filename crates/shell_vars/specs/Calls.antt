@@ -95,10 +95,13 @@ local name v s = local_in (call_depth s) name v s
 abbrev pub both : Attr → Attr → Attr
 both a b = record { readonly = a.readonly || b.readonly; exported = a.exported || b.exported }
 
+-- a binding with these attributes too
+abbrev pub marked : Attr → Binding → Binding
+marked a b = record b { attr = both b.attr a }
+
 -- `mark` adds attributes to the binding that `set` would write, and takes none away; where there is none it is the mark
 abbrev pub mark : Text → Attr → Store → Result Store VarErr
-mark name a s =
-    admitted (bind_at (target name s) name (record (held_at (target name s) name s) { attr = both (held_at (target name s) name s).attr a }) s)
+mark name a s = admitted (bind_at (target name s) name (marked a (held_at (target name s) name s)) s)
 
 -- whether two depths are given and equal
 abbrev pub is_at : ℕ → Option ℕ → Bool

@@ -11,7 +11,7 @@ use Rattle.eb_bytes.specs.Text.{Text}
 use Rattle.shell_vars.specs.Elements.{joined, can_join, elements_size}
 use Rattle.shell_vars.specs.Value.{elements_of, value_size}
 use Rattle.shell_vars.specs.Store.{Store, unset_here, binding_at}
-use Rattle.shell_vars.specs.Calls.{both}
+use Rattle.shell_vars.specs.Calls.{marked}
 use Rattle.shell_vars.specs.Stores.{Refuses}
 use Rattle.shell_vars.specs.declared.error.VarErr.{VarErr}
 
@@ -21,7 +21,7 @@ changed (Set v) b = record b { value = Some v }
 changed (Element i t) b = record b { value = Some (value.Array (map.insert (elements_of b.value) i t)) }
 changed (Join more) b = record b { value = Some (value.Array (joined (elements_of b.value) more)) }
 changed (Without i) b = record b { value = Some (value.Array (map.remove (elements_of b.value) i)) }
-changed (Mark a) b = record b { attr = both b.attr a }
+changed (Mark a) b = marked a b
 changed Unset b = unset_here
 
 -- the size of the element that has an index

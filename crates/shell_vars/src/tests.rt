@@ -2,7 +2,7 @@ use crate::{Attr, Call, Elements, FrameKind, Value, VarErr, Vars, run_calls};
 use eb_bytes::{Bytes, Memory, decimal, words_of};
 use std::alloc::Global;
 
-// Histories of calls, one word a call, and what they answer.
+// Histories of calls, one word a call, and behind the bar what they answer.
 //
 // The first byte says the call, the second the name, and what follows the value or the subscript:
 //   s set        S set to an array    h set_global    e set_elem     l local        L local without a value
@@ -12,203 +12,223 @@ use std::alloc::Global;
 // An array is a byte for each element, with a dot where an index is left out. A subscript is a digit, or a letter for a
 // negative one, a for -1; z is 9223372036854775807.
 //
-// The answers: a value's text, an array's indices and texts, '' and () for an empty one, - for no value; y and n of unset; the attributes r and x,
-// or 0; the bytes; the first letter of a refusal, in capitals; and ? for a call that may not be made.
-const HISTORIES: [(&[u8], &[u8]); 182] = [
-    // A name in no frame, in the global one, and in those inside it.
-    (b"gx", b"-"),
-    (b"sx1 gx Gx", b"1 1"),
-    (b"sx gx", b"''"),
-    (b"sx1 sx2 gx", b"2"),
-    (b"sx1 ( gx sx2 gx ) gx", b"1 2 2"),
-    (b"sx1 ( lx2 gx Gx sx3 gx Gx ) gx", b"2 1 3 1 1"),
-    (b"sx1 [ bx2 gx Gx sx3 gx Gx ) gx", b"2 1 3 1 1"),
-    (b"( sx1 ) gx", b"1"),
-    (b"[ sx1 ) gx", b"1"),
-    (b"( lx1 ( sx2 gx ) gx ) gx", b"2 2 -"),
-    (b"( lx1 ( gx lx2 gx ) gx ) gx", b"1 2 1 -"),
-    (b"sx0 ( lx1 ( lx2 ( lx3 gx ) gx ) gx ) gx", b"3 2 1 0"),
-    (b"( lx1 [ bx2 sx3 gx ) gx ) gx", b"3 1 -"),
-    (b"( lx1 [ by2 sx3 gx gy ) gx gy )", b"3 2 3 -"),
-    // The mark, and local.
-    (b"sx1 ( Lx gx Gx ) gx", b"- 1 1"),
-    (b"sx1 ( Lx sx2 gx Gx ) gx", b"2 1 1"),
-    (b"sx1 ( lx2 Lx gx )", b"2"),
-    (b"sx1 ( Lx Lx gx )", b"-"),
-    (b"( lx1 lx2 gx )", b"2"),
-    (b"( lx1 [ bx2 lx3 gx ) gx )", b"2 3"),
-    (b"lx1 gx", b"L -"),
-    (b"Lx", b"L"),
-    (b"[ lx1 Lx gx )", b"L L -"),
-    (b"( [ lx1 gx ) gx ) gx", b"1 1 -"),
-    (b"( Lx [ gx bx1 gx ) gx )", b"- 1 -"),
-    // The global frame alone.
-    (b"hx1 gx Gx", b"1 1"),
-    (b"( lx1 hx2 gx Gx ) gx", b"1 2 2"),
-    (b"sx1 ( lx2 Hx gx Gx ) gx", b"2 - -"),
-    (b"sx1 Hx gx", b"-"),
-    (b"Hx gx", b"-"),
-    (b"sx1 rx hx2 Gx", b"R 1"),
-    (b"sx1 rx Hx Gx", b"R 1"),
-    (b"( lx1 rx hx2 gx Gx Hx Gx )", b"1 2 -"),
-    // unset.
-    (b"ux", b"n"),
-    (b"sx1 ux gx", b"y -"),
-    (b"sx0 ( lx1 ( ux gx ) gx )", b"y 0 0"),
-    (b"sx0 ( lx1 ux gx Gx ) gx", b"y - 0 0"),
-    (b"sx0 ( lx1 ux ux gx )", b"y n -"),
-    (b"sx0 ( lx1 ux sx2 gx Gx ) gx", b"y 2 0 0"),
-    (b"sx0 ( lx1 [ bx2 ux gx ) gx ) gx", b"y 1 1 0"),
-    (b"sx0 ( lx1 [ bx2 ux ux gx Gx ) ) gx", b"y y - 0 0"),
-    (b"sx0 [ bx1 ux gx ) gx", b"y 0 0"),
-    (b"sx0 ( ux gx ) gx", b"y - -"),
-    (b"( lx1 ( lx2 ux gx ) gx )", b"y - 1"),
-    (b"( lx1 ( lx2 ( ux gx ) gx ) gx )", b"y 1 1 1"),
-    (b"sx0 ( Lx ( ux gx ) gx )", b"n 0 0"),
-    (b"sx1 rx ux gx", b"R 1"),
-    (b"( lx1 rx ux gx )", b"R 1"),
-    (b"sx1 ( lx2 rx ( ux gx ) ) gx", b"R 2 1"),
-    (b"rx ux gx", b"R -"),
-    (b"( lx1 xx ux tx lx2 tx )", b"y 0 0"),
-    // Attributes.
-    (b"tx", b"0"),
-    (b"xx tx gx", b"x -"),
-    (b"rx tx", b"r"),
-    (b"rx xx tx", b"rx"),
-    (b"sx1 xx sx2 tx gx", b"x 2"),
-    (b"sx1 rx sx2 gx tx", b"R 1 r"),
-    (b"sx1 rx xx tx", b"rx"),
-    (b"sx1 rx rx tx", b"r"),
-    (b"sx1 xx ( lx2 tx ) tx", b"0 x"),
-    (b"sx1 ( lx2 xx tx ) tx", b"x 0"),
-    (b"( xx ) tx gx", b"x -"),
-    (b"( lx1 xx lx2 tx gx )", b"x 2"),
-    (b"[ bx1 xx bx2 tx gx ) tx", b"x 2 0"),
-    (b"xx sx1 tx", b"x"),
-    (b"xx hx1 tx", b"x"),
-    (b"xx Hx tx", b"0"),
-    (b"xx ex1v tx gx", b"x 1v"),
-    (b"sx1 xx ax2 tx gx", b"x 12"),
-    // Readonly at each level.
-    (b"sx1 rx ( sx2 gx ) gx", b"R 1 1"),
-    (b"sx1 rx ( lx2 gx )", b"R 1"),
-    (b"sx1 rx ( Lx gx )", b"R 1"),
-    (b"sx1 rx ( ( lx2 ) )", b"R"),
-    (b"sx1 ( lx2 rx ( lx3 gx ) gx )", b"3 2"),
-    (b"( lx1 rx lx2 gx )", b"R 1"),
-    (b"( lx1 rx Lx gx )", b"1"),
-    (b"( lx1 rx sx2 gx )", b"R 1"),
-    (b"( Lx rx lx1 gx )", b"R -"),
-    (b"( Lx rx ) tx", b"0"),
-    (b"sx1 rx [ bx2 gx ) gx", b"2 1"),
-    (b"[ bx1 rx bx2 gx ) gx", b"R 1 -"),
-    (b"sx1 rx ( lx2 [ bx3 sx4 gx ) )", b"R 4"),
-    (b"sx1 rx [ bx2 ( lx3 gx ) )", b"3"),
-    (b"sx1 rx ax2 gx", b"R 1"),
-    (b"sx1 rx ex0a gx", b"R 1"),
-    (b"sx1 rx exjq", b"R"),
-    (b"sx1 rx Ax gx", b"R 1"),
-    (b"Sxab rx vx0 gx", b"R 0a1b"),
-    (b"Sxab rx vx7", b"R"),
-    (b"rx vxa", b"R"),
-    // append.
-    (b"ax1 gx", b"1"),
-    (b"sx1 ax2 gx", b"12"),
-    (b"sx1 ( ax2 ) gx", b"12"),
-    (b"sx1 ( lx2 ax3 gx ) gx", b"23 1"),
-    (b"sx1 ( Lx ax3 gx ) gx", b"3 1"),
-    (b"Sxab axc gx", b"0ac1b"),
-    (b"Sx.b axc gx", b"0c1b"),
-    (b"Axab gx", b"0a1b"),
-    (b"sxt Axab gx", b"0t1a2b"),
-    (b"Sxab Axcd gx", b"0a1b2c3d"),
-    (b"Sxab Axc.d gx", b"0a1b2c3d"),
-    (b"ex5z Axab gx", b"5z6a7b"),
-    (b"Axab Ax gx", b"0a1b"),
-    (b"sxt Ax gx", b"0t"),
-    (b"Ax gx", b"()"),
-    (b"ax gx", b"''"),
-    // set_elem.
-    (b"ex0a gx", b"0a"),
-    (b"ex3a gx", b"3a"),
-    (b"sxt ex0a gx", b"0a"),
-    (b"sxt ex1a gx", b"0t1a"),
-    (b"sxt exab gx", b"0b"),
-    (b"sxt exbc gx", b"B t"),
-    (b"exaq gx", b"B -"),
-    (b"Sxabc exaq gx", b"0a1b2q"),
-    (b"Sxabc excq gx", b"0q1b2c"),
-    (b"Sxabc exdq gx", b"B 0a1b2c"),
-    (b"Sx..c excq gx", b"0q2c"),
-    (b"Sx..c exbq gx", b"1q2c"),
-    (b"exzq gx", b"9223372036854775807q"),
-    (b"exzq Axa gx", b"B 9223372036854775807q"),
-    (b"exzq Ax gx", b"9223372036854775807q"),
-    (b"exzq axb gx", b"0b9223372036854775807q"),
-    (b"exzq exaw gx", b"9223372036854775807w"),
-    (b"exzq vxz gx", b"()"),
-    (b"( lxt ex1a gx ) gx", b"0t1a -"),
-    (b"sxt ( Lx ex2a gx ) gx", b"2a t"),
-    (b"Sxab sxt gx", b"t"),
-    // unset_elem.
-    (b"vx0 gx", b"-"),
-    (b"vxa gx", b"B -"),
-    (b"sxt vx0 gx", b"()"),
-    (b"sxt vx1 gx", b"t"),
-    (b"sxt vxa gx", b"()"),
-    (b"sxt vxb gx", b"B t"),
-    (b"Sxabc vx1 gx", b"0a2c"),
-    (b"Sxabc vxa gx", b"0a1b"),
-    (b"Sxabc vxc gx", b"1b2c"),
-    (b"Sxabc vxd gx", b"B 0a1b2c"),
-    (b"Sxabc vx7 gx", b"0a1b2c"),
-    (b"Sxabc vx0 vxc gx", b"1b2c"),
-    (b"Sxa vx0 gx", b"()"),
-    (b"Sxa vx0 vxa gx", b"B ()"),
-    (b"sxt ( vx0 gx ) gx", b"() ()"),
-    (b"sxt ( lxu vx0 gx ) gx", b"() t"),
-    (b"sxt ( Lx vx0 gx Gx )", b"- t"),
-    (b"sxt ( Lx vxa )", b"B"),
-    (b"sxt xx vx0 tx", b"x"),
-    // Subshells.
-    (b"sx1 { sx2 gx } gx", b"2 1"),
-    (b"{ sx1 } gx", b"-"),
-    (b"sx1 { ux gx } gx", b"y - 1"),
-    (b"sx1 ( lx2 { sx3 gx } gx ) gx", b"3 2 1"),
-    (b"sx1 ( lx2 { ) gx } gx ) gx", b"1 2 1"),
-    (b"sx1 { ( lx2 gx } gx", b"2 1"),
-    (b"{ ( } )", b"?"),
-    (b"{ ( } lx1", b"L"),
-    (b"sx1 { sx2 { sx3 gx } gx } gx", b"3 2 1"),
-    (b"sx1 { rx sx2 } sx2 gx tx", b"R 2 0"),
-    (b"sx1 { hx2 Hx gx } gx", b"- 1"),
-    (b"sxt { ex1a gx } gx", b"0t1a t"),
-    (b"Sxab { vx0 Axc gx } gx", b"1b2c 0a1b"),
-    (b"}", b"?"),
-    (b")", b"?"),
-    (b"bx1", b"?"),
-    (b"( bx1 )", b"?"),
-    // Bytes: a name's length, and for each element its length and 16.
-    (b"#", b"0"),
-    (b"sx1 #", b"18"),
-    (b"sx #", b"17"),
-    (b"rx #", b"1"),
-    (b"Sxab #", b"35"),
-    (b"sxt ex5ab #", b"36"),
-    (b"sx1 ( lx22 # ) #", b"37 18"),
-    (b"sx1 ( Lx # ) #", b"19 18"),
-    (b"sx1 ux #", b"y 0"),
-    (b"( lx1 ux # ) #", b"y 1 0"),
-    (b"sx1 Hx #", b"0"),
-    (b"Sxab vx0 #", b"18"),
-    (b"sxt vx0 #", b"1"),
-    (b"sx1 ax23 #", b"20"),
-    (b"Sxab Axc #", b"52"),
-    (b"sxt Axc #", b"35"),
-    (b"[ bx1 by2 # ) #", b"36 0"),
-    (b"sx1 { # sxab # } #", b"18 19 18"),
-    (b"( { ) sx1 # } # )", b"18 0"),
-];
+// The answers: a value's text, an array's indices and texts, '' and () for an empty one, - for no value; y and n of
+// unset; the attributes r and x, or 0; the bytes; the first letter of a refusal; and ? for a call that may not be made.
+
+// A name in no frame, in the global one, and in those inside it.
+const FRAMES: &str = "\
+gx|-\n\
+sx1 gx Gx|1 1\n\
+sx gx|''\n\
+sx1 sx2 gx|2\n\
+sx1 ( gx sx2 gx ) gx|1 2 2\n\
+sx1 ( lx2 gx Gx sx3 gx Gx ) gx|2 1 3 1 1\n\
+sx1 [ bx2 gx Gx sx3 gx Gx ) gx|2 1 3 1 1\n\
+( sx1 ) gx|1\n\
+[ sx1 ) gx|1\n\
+( lx1 ( sx2 gx ) gx ) gx|2 2 -\n\
+( lx1 ( gx lx2 gx ) gx ) gx|1 2 1 -\n\
+sx0 ( lx1 ( lx2 ( lx3 gx ) gx ) gx ) gx|3 2 1 0\n\
+( lx1 [ bx2 sx3 gx ) gx ) gx|3 1 -\n\
+( lx1 [ by2 sx3 gx gy ) gx gy )|3 2 3 -";
+
+// The mark, and local.
+const MARKS: &str = "\
+sx1 ( Lx gx Gx ) gx|- 1 1\n\
+sx1 ( Lx sx2 gx Gx ) gx|2 1 1\n\
+sx1 ( lx2 Lx gx )|2\n\
+sx1 ( Lx Lx gx )|-\n\
+( lx1 lx2 gx )|2\n\
+( lx1 [ bx2 lx3 gx ) gx )|2 3\n\
+lx1 gx|L -\n\
+Lx|L\n\
+[ lx1 Lx gx )|L L -\n\
+( [ lx1 gx ) gx ) gx|1 1 -\n\
+( Lx [ gx bx1 gx ) gx )|- 1 -";
+
+// The global frame alone.
+const GLOBALS: &str = "\
+hx1 gx Gx|1 1\n\
+( lx1 hx2 gx Gx ) gx|1 2 2\n\
+sx1 ( lx2 Hx gx Gx ) gx|2 - -\n\
+sx1 Hx gx|-\n\
+Hx gx|-\n\
+sx1 rx hx2 Gx|R 1\n\
+sx1 rx Hx Gx|R 1\n\
+( lx1 rx hx2 gx Gx Hx Gx )|1 2 -";
+
+// unset.
+const UNSETS: &str = "\
+ux|n\n\
+sx1 ux gx|y -\n\
+sx0 ( lx1 ( ux gx ) gx )|y 0 0\n\
+sx0 ( lx1 ux gx Gx ) gx|y - 0 0\n\
+sx0 ( lx1 ux ux gx )|y n -\n\
+sx0 ( lx1 ux sx2 gx Gx ) gx|y 2 0 0\n\
+sx0 ( lx1 [ bx2 ux gx ) gx ) gx|y 1 1 0\n\
+sx0 ( lx1 [ bx2 ux ux gx Gx ) ) gx|y y - 0 0\n\
+sx0 [ bx1 ux gx ) gx|y 0 0\n\
+sx0 ( ux gx ) gx|y - -\n\
+( lx1 ( lx2 ux gx ) gx )|y - 1\n\
+( lx1 ( lx2 ( ux gx ) gx ) gx )|y 1 1 1\n\
+sx0 ( Lx ( ux gx ) gx )|n 0 0\n\
+sx1 rx ux gx|R 1\n\
+( lx1 rx ux gx )|R 1\n\
+sx1 ( lx2 rx ( ux gx ) ) gx|R 2 1\n\
+rx ux gx|R -\n\
+( lx1 xx ux tx lx2 tx )|y 0 0";
+
+// Attributes.
+const ATTRIBUTES: &str = "\
+tx|0\n\
+xx tx gx|x -\n\
+rx tx|r\n\
+rx xx tx|rx\n\
+sx1 xx sx2 tx gx|x 2\n\
+sx1 rx sx2 gx tx|R 1 r\n\
+sx1 rx xx tx|rx\n\
+sx1 rx rx tx|r\n\
+sx1 xx ( lx2 tx ) tx|0 x\n\
+sx1 ( lx2 xx tx ) tx|x 0\n\
+( xx ) tx gx|x -\n\
+( lx1 xx lx2 tx gx )|x 2\n\
+[ bx1 xx bx2 tx gx ) tx|x 2 0\n\
+xx sx1 tx|x\n\
+xx hx1 tx|x\n\
+xx Hx tx|0\n\
+xx ex1v tx gx|x 1v\n\
+sx1 xx ax2 tx gx|x 12";
+
+// Readonly at each level.
+const READONLY: &str = "\
+sx1 rx ( sx2 gx ) gx|R 1 1\n\
+sx1 rx ( lx2 gx )|R 1\n\
+sx1 rx ( Lx gx )|R 1\n\
+sx1 rx ( ( lx2 ) )|R\n\
+sx1 ( lx2 rx ( lx3 gx ) gx )|3 2\n\
+( lx1 rx lx2 gx )|R 1\n\
+( lx1 rx Lx gx )|1\n\
+( lx1 rx sx2 gx )|R 1\n\
+( Lx rx lx1 gx )|R -\n\
+( Lx rx ) tx|0\n\
+sx1 rx [ bx2 gx ) gx|2 1\n\
+[ bx1 rx bx2 gx ) gx|R 1 -\n\
+sx1 rx ( lx2 [ bx3 sx4 gx ) )|R 4\n\
+sx1 rx [ bx2 ( lx3 gx ) )|3\n\
+sx1 rx ax2 gx|R 1\n\
+sx1 rx ex0a gx|R 1\n\
+sx1 rx exjq|R\n\
+sx1 rx Ax gx|R 1\n\
+Sxab rx vx0 gx|R 0a1b\n\
+Sxab rx vx7|R\n\
+rx vxa|R";
+
+// append.
+const APPENDS: &str = "\
+ax1 gx|1\n\
+sx1 ax2 gx|12\n\
+sx1 ( ax2 ) gx|12\n\
+sx1 ( lx2 ax3 gx ) gx|23 1\n\
+sx1 ( Lx ax3 gx ) gx|3 1\n\
+Sxab axc gx|0ac1b\n\
+Sx.b axc gx|0c1b\n\
+Axab gx|0a1b\n\
+sxt Axab gx|0t1a2b\n\
+Sxab Axcd gx|0a1b2c3d\n\
+Sxab Axc.d gx|0a1b2c3d\n\
+ex5z Axab gx|5z6a7b\n\
+Axab Ax gx|0a1b\n\
+sxt Ax gx|0t\n\
+Ax gx|()\n\
+ax gx|''";
+
+// set_elem.
+const ELEMENTS: &str = "\
+ex0a gx|0a\n\
+ex3a gx|3a\n\
+sxt ex0a gx|0a\n\
+sxt ex1a gx|0t1a\n\
+sxt exab gx|0b\n\
+sxt exbc gx|B t\n\
+exaq gx|B -\n\
+Sxabc exaq gx|0a1b2q\n\
+Sxabc excq gx|0q1b2c\n\
+Sxabc exdq gx|B 0a1b2c\n\
+Sx..c excq gx|0q2c\n\
+Sx..c exbq gx|1q2c\n\
+exzq gx|9223372036854775807q\n\
+exzq Axa gx|B 9223372036854775807q\n\
+exzq Ax gx|9223372036854775807q\n\
+exzq axb gx|0b9223372036854775807q\n\
+exzq exaw gx|9223372036854775807w\n\
+exzq vxz gx|()\n\
+( lxt ex1a gx ) gx|0t1a -\n\
+sxt ( Lx ex2a gx ) gx|2a t\n\
+Sxab sxt gx|t";
+
+// unset_elem.
+const ELEMENTS_GONE: &str = "\
+vx0 gx|-\n\
+vxa gx|B -\n\
+sxt vx0 gx|()\n\
+sxt vx1 gx|t\n\
+sxt vxa gx|()\n\
+sxt vxb gx|B t\n\
+Sxabc vx1 gx|0a2c\n\
+Sxabc vxa gx|0a1b\n\
+Sxabc vxc gx|1b2c\n\
+Sxabc vxd gx|B 0a1b2c\n\
+Sxabc vx7 gx|0a1b2c\n\
+Sxabc vx0 vxc gx|1b2c\n\
+Sxa vx0 gx|()\n\
+Sxa vx0 vxa gx|B ()\n\
+sxt ( vx0 gx ) gx|() ()\n\
+sxt ( lxu vx0 gx ) gx|() t\n\
+sxt ( Lx vx0 gx Gx )|- t\n\
+sxt ( Lx vxa )|B\n\
+sxt xx vx0 tx|x";
+
+// Subshells.
+const SUBSHELLS: &str = "\
+sx1 { sx2 gx } gx|2 1\n\
+{ sx1 } gx|-\n\
+sx1 { ux gx } gx|y - 1\n\
+sx1 ( lx2 { sx3 gx } gx ) gx|3 2 1\n\
+sx1 ( lx2 { ) gx } gx ) gx|1 2 1\n\
+sx1 { ( lx2 gx } gx|2 1\n\
+{ ( } )|?\n\
+{ ( } lx1|L\n\
+sx1 { sx2 { sx3 gx } gx } gx|3 2 1\n\
+sx1 { rx sx2 } sx2 gx tx|R 2 0\n\
+sx1 { hx2 Hx gx } gx|- 1\n\
+sxt { ex1a gx } gx|0t1a t\n\
+Sxab { vx0 Axc gx } gx|1b2c 0a1b\n\
+}|?\n\
+)|?\n\
+bx1|?\n\
+( bx1 )|?";
+
+// Bytes: a name's length, and for each element its length and 16.
+const BYTES: &str = "\
+#|0\n\
+sx1 #|18\n\
+sx #|17\n\
+rx #|1\n\
+Sxab #|35\n\
+sxt ex5ab #|36\n\
+sx1 ( lx22 # ) #|37 18\n\
+sx1 ( Lx # ) #|19 18\n\
+sx1 ux #|y 0\n\
+( lx1 ux # ) #|y 1 0\n\
+sx1 Hx #|0\n\
+Sxab vx0 #|18\n\
+sxt vx0 #|1\n\
+sx1 ax23 #|20\n\
+Sxab Axc #|52\n\
+sxt Axc #|35\n\
+[ bx1 by2 # ) #|36 0\n\
+sx1 { # sxab # } #|18 19 18\n\
+( { ) sx1 # } # )|18 0";
 
 // The value of an array's notation.
 fn array(alloc: Global, items: &[u8]) -> Result<Elements, Memory> {
@@ -400,12 +420,71 @@ fn answers(alloc: Global, history: &[u8]) -> Result<Bytes, Memory> {
     Ok(all)
 }
 
-#[test]
-fn histories_have_these_answers(rt: HostRuntime) {
-    for (history, want) in HISTORIES {
-        let said = answers(rt.alloc(), history).expect(&rt, "memory");
-        assert!(rt; said.as_slice() == want, "at {history:?}");
+// Whether each row's history has the answers that stand behind the bar.
+fn all_hold(alloc: Global, rows: &str) -> Result<bool, Memory> {
+    for row in rows.lines() {
+        if let Some((history, want)) = row.split_once('|') {
+            if answers(alloc, history.as_bytes())?.as_slice() != want.as_bytes() {
+                return Ok(false);
+            }
+        }
     }
+    Ok(true)
+}
+
+#[test]
+fn frames_hold(rt: HostRuntime) {
+    assert!(rt; all_hold(rt.alloc(), FRAMES).expect(&rt, "memory"));
+}
+
+#[test]
+fn marks_hold(rt: HostRuntime) {
+    assert!(rt; all_hold(rt.alloc(), MARKS).expect(&rt, "memory"));
+}
+
+#[test]
+fn globals_hold(rt: HostRuntime) {
+    assert!(rt; all_hold(rt.alloc(), GLOBALS).expect(&rt, "memory"));
+}
+
+#[test]
+fn unsets_hold(rt: HostRuntime) {
+    assert!(rt; all_hold(rt.alloc(), UNSETS).expect(&rt, "memory"));
+}
+
+#[test]
+fn attributes_hold(rt: HostRuntime) {
+    assert!(rt; all_hold(rt.alloc(), ATTRIBUTES).expect(&rt, "memory"));
+}
+
+#[test]
+fn readonly_hold(rt: HostRuntime) {
+    assert!(rt; all_hold(rt.alloc(), READONLY).expect(&rt, "memory"));
+}
+
+#[test]
+fn appends_hold(rt: HostRuntime) {
+    assert!(rt; all_hold(rt.alloc(), APPENDS).expect(&rt, "memory"));
+}
+
+#[test]
+fn elements_hold(rt: HostRuntime) {
+    assert!(rt; all_hold(rt.alloc(), ELEMENTS).expect(&rt, "memory"));
+}
+
+#[test]
+fn elements_gone_hold(rt: HostRuntime) {
+    assert!(rt; all_hold(rt.alloc(), ELEMENTS_GONE).expect(&rt, "memory"));
+}
+
+#[test]
+fn subshells_hold(rt: HostRuntime) {
+    assert!(rt; all_hold(rt.alloc(), SUBSHELLS).expect(&rt, "memory"));
+}
+
+#[test]
+fn bytes_hold(rt: HostRuntime) {
+    assert!(rt; all_hold(rt.alloc(), BYTES).expect(&rt, "memory"));
 }
 
 // So many bytes.
@@ -420,81 +499,112 @@ fn filled(alloc: Global, count: usize) -> Result<Bytes, Memory> {
     Ok(text)
 }
 
-fn text(alloc: Global, count: usize) -> Result<Value, Memory> {
-    Ok(Value::Text(filled(alloc, count)?))
+// Calls with texts of so many bytes: s set and a append to x, y append to y, e element 3 of y and E one with a bad
+// subscript, I element 0 and i element 1 of x, M mark x and m another name, ( push_frame, l and L local.
+const LONG_TEXTS: [(u8, usize); 10] = [
+    (b's', 1_048_577),
+    (b's', 1_048_576),
+    (b'a', 1),
+    (b'a', 0),
+    (b'e', 1_048_577),
+    (b'e', 1_048_576),
+    (b'y', 1_048_577),
+    (b'y', 1),
+    (b'E', 1_048_577),
+    (b'l', 1_048_577),
+];
+
+const FULL: [(u8, usize); 10] = [
+    (b's', 1_048_033),
+    (b's', 1_048_032),
+    (b'm', 0),
+    (b'M', 0),
+    (b'a', 1),
+    (b'i', 0),
+    (b'(', 0),
+    (b'L', 0),
+    (b'I', 1_048_015),
+    (b'L', 0),
+];
+
+fn long_step(
+    alloc: Global,
+    vars: &mut Vars,
+    call: u8,
+    count: usize,
+) -> Result<&'static [u8], Memory> {
+    let long = filled(alloc, count)?;
+    Ok(match call {
+        b's' => answer(vars.set(b"x", Value::Text(long))),
+        b'a' => answer(vars.append(b"x", Value::Text(long))),
+        b'y' => answer(vars.append(b"y", Value::Text(long))),
+        b'e' => answer(vars.set_elem(b"y", 3, long)),
+        b'E' => answer(vars.set_elem(b"y", -9, long)),
+        b'I' => answer(vars.set_elem(b"x", 0, long)),
+        b'i' => answer(vars.set_elem(b"x", 1, long)),
+        b'l' => answer(vars.local(b"z", Some(Value::Text(long)))),
+        _ => short_step(vars, call),
+    })
 }
 
-// The answers of sizes at and above the limit of one text.
-fn sizes_of_texts(alloc: Global) -> Result<Bytes, Memory> {
-    let mut vars = Vars::new(alloc)?;
+fn short_step(vars: &mut Vars, call: u8) -> &'static [u8] {
+    match call {
+        b'm' => answer(vars.mark(b"G", attributes(true))),
+        b'M' => answer(vars.mark(b"x", attributes(false))),
+        b'L' => answer(vars.local(b"G", None)),
+        _ => opened(vars.push_frame(FrameKind::Call)),
+    }
+}
+
+// The answers of a history, and the bytes at its end.
+fn long_answers(alloc: Global, vars: &mut Vars, history: &[(u8, usize)]) -> Result<Bytes, Memory> {
     let mut all = Bytes::new(alloc);
-    all.extend(answer(vars.set(b"x", text(alloc, 1_048_577)?)))?;
-    all.extend(answer(vars.set(b"x", text(alloc, 1_048_576)?)))?;
-    all.extend(answer(vars.append(b"x", text(alloc, 1)?)))?;
-    all.extend(answer(vars.append(b"x", text(alloc, 0)?)))?;
-    all.extend(answer(vars.set_elem(b"y", 3, filled(alloc, 1_048_577)?)))?;
-    all.extend(answer(vars.set_elem(b"y", 3, filled(alloc, 1_048_576)?)))?;
-    all.extend(answer(vars.append(b"y", text(alloc, 1_048_577)?)))?;
-    all.extend(answer(vars.append(b"y", text(alloc, 1)?)))?;
-    all.extend(answer(vars.set_elem(b"y", -9, filled(alloc, 1_048_577)?)))?;
-    all.extend(answer(vars.local(b"z", Some(text(alloc, 1_048_577)?))))?;
+    for (call, count) in history {
+        all.extend(long_step(alloc, vars, *call, *count)?)?;
+    }
     all.extend(decimal(alloc, vars.bytes_used())?.as_slice())?;
     Ok(all)
 }
 
-// x takes 1 + 1048576 + 16 bytes, y 1 + 1048576 + 16 + 1 + 16. The second subscript is bad before its text is too long.
+// x takes 1 + 1048576 + 16 bytes, y 1 + 1048576 + 16 + 1 + 16. The bad subscript comes before the text is too long.
 #[test]
 fn texts_have_a_limit(rt: HostRuntime) {
-    let said = sizes_of_texts(rt.alloc()).expect(&rt, "memory");
+    let mut vars = Vars::new(rt.alloc()).expect(&rt, "memory");
+    let said = long_answers(rt.alloc(), &mut vars, LONG_TEXTS.as_slice()).expect(&rt, "memory");
     assert!(rt; said.as_slice() == b"VVVVBL2097203".as_slice());
 }
-
-const NAMES: &[u8] = b"abcdefghijklmnopqrstuvwxyzABCDE";
 
 // 31 texts of the greatest length take 32,506,383 bytes; 1,048,049 are left.
 fn nearly_full(alloc: Global) -> Result<Vars, Memory> {
     let mut vars = Vars::new(alloc)?;
-    for name in NAMES {
-        let _ = vars.set(&[*name], text(alloc, 1_048_576)?);
+    for name in b"abcdefghijklmnopqrstuvw01234567" {
+        let _ = vars.set(&[*name], Value::Text(filled(alloc, 1_048_576)?));
     }
     Ok(vars)
 }
 
-// The answers of calls at the limit of all.
-fn sizes_of_all(alloc: Global) -> Result<Bytes, Memory> {
-    let mut vars = nearly_full(alloc)?;
-    let mut all = Bytes::new(alloc);
-    all.extend(answer(vars.set(b"F", text(alloc, 1_048_033)?)))?;
-    all.extend(answer(vars.set(b"F", text(alloc, 1_048_032)?)))?;
-    all.extend(answer(vars.mark(b"G", attributes(true))))?;
-    all.extend(answer(vars.mark(b"F", attributes(false))))?;
-    all.extend(answer(vars.append(b"F", text(alloc, 1)?)))?;
-    all.extend(answer(vars.set_elem(b"F", 1, Bytes::new(alloc))))?;
-    all.extend(opened(vars.push_frame(FrameKind::Call)))?;
-    all.extend(answer(vars.local(b"G", None)))?;
-    all.extend(answer(vars.set_elem(b"F", 0, filled(alloc, 1_048_015)?)))?;
-    all.extend(answer(vars.local(b"G", None)))?;
-    all.extend(decimal(alloc, vars.bytes_used())?.as_slice())?;
-    Ok(all)
-}
-
 #[test]
 fn all_bindings_have_a_limit(rt: HostRuntime) {
-    let said = sizes_of_all(rt.alloc()).expect(&rt, "memory");
+    let mut vars = nearly_full(rt.alloc()).expect(&rt, "memory");
+    let said = long_answers(rt.alloc(), &mut vars, FULL.as_slice()).expect(&rt, "memory");
     assert!(rt; said.as_slice() == b"TTTTT33554416".as_slice());
 }
 
-// x=$x$x again and again, from 16 bytes on.
+// x=$x$x
+fn double(alloc: Global, vars: &mut Vars) -> Result<&'static [u8], Memory> {
+    let twice = match vars.get(b"x") {
+        Some(value) => value.copy(alloc)?,
+        None => Value::Text(filled(alloc, 16)?),
+    };
+    Ok(answer(vars.append(b"x", twice)))
+}
+
+// From 16 bytes on: the first time sets them.
 fn doublings(alloc: Global) -> Result<Bytes, Memory> {
     let mut vars = Vars::new(alloc)?;
     let mut all = Bytes::new(alloc);
-    all.extend(answer(vars.set(b"x", text(alloc, 16)?)))?;
-    for _ in 0..17 {
-        let twice = match vars.get(b"x") {
-            Some(value) => value.copy(alloc)?,
-            None => text(alloc, 0)?,
-        };
-        all.extend(answer(vars.append(b"x", twice)))?;
+    for _ in 0..18 {
+        all.extend(double(alloc, &mut vars)?)?;
     }
     all.extend(decimal(alloc, vars.bytes_used())?.as_slice())?;
     Ok(all)
@@ -506,49 +616,67 @@ fn a_text_doubles_sixteen_times(rt: HostRuntime) {
     assert!(rt; said.as_slice() == b"V1048593".as_slice());
 }
 
-fn named(alloc: Global) -> Result<Bytes, Memory> {
-    Bytes::from_slice(alloc, b"x")
+// A call as a value, on the name x.
+fn call(alloc: Global, byte: u8) -> Result<Call, Memory> {
+    let name = Bytes::from_slice(alloc, b"x")?;
+    let value = Value::Text(Bytes::from_slice(alloc, &[byte])?);
+    Ok(match byte {
+        b's' => Call::Set(name, value),
+        b'a' => Call::Append(name, value),
+        b'l' => Call::Local(name, Some(value)),
+        b'b' => Call::Bind(name, value),
+        b'h' => Call::SetGlobal(name, value),
+        b'r' => Call::Mark(name, attributes(true)),
+        b'u' => Call::Unset(name),
+        b'v' => Call::UnsetElem(name, 0),
+        b'H' => Call::UnsetGlobal(name),
+        _ => frame_call(byte),
+    })
 }
 
-// Calls as values: a local name in a subshell, whose end comes after that of the call.
-fn calls(alloc: Global) -> Result<Vec<Call>, Memory> {
+fn frame_call(byte: u8) -> Call {
+    match byte {
+        b'(' => Call::PushFrame(FrameKind::Call),
+        b'[' => Call::PushFrame(FrameKind::Prefix),
+        b')' => Call::PopFrame,
+        b'{' => Call::OpenSub,
+        _ => Call::DropSub,
+    }
+}
+
+fn calls(alloc: Global, bytes: &[u8]) -> Result<Vec<Call>, Memory> {
     let mut all = Vec::new(alloc);
-    all.push(Call::Set(named(alloc)?, text(alloc, 1)?))?;
-    all.push(Call::OpenSub)?;
-    all.push(Call::PushFrame(FrameKind::Call))?;
-    all.push(Call::Local(named(alloc)?, Some(text(alloc, 2)?)))?;
-    all.push(Call::PopFrame)?;
-    all.push(Call::PopFrame)?;
-    all.push(Call::Append(named(alloc)?, text(alloc, 1)?))?;
-    all.push(Call::Mark(named(alloc)?, attributes(true)))?;
-    all.push(Call::SetGlobal(named(alloc)?, text(alloc, 9)?))?;
+    for byte in bytes {
+        all.push(call(alloc, *byte)?)?;
+    }
     Ok(all)
 }
 
-fn run_both(alloc: Global) -> Result<Bytes, Memory> {
+// Calls as values, and the text of x after them.
+const CALLS: [(&[u8], &[u8]); 12] = [
+    (b"", b"-"),
+    (b"s", b"s"),
+    (b"s{a", b"sa"),
+    (b"s{a}", b"s"),
+    (b"s{(l)}a", b"sa"),
+    (b"s)b}", b"s"),
+    (b"s[b", b"b"),
+    (b"s[bu", b"s"),
+    (b"srh", b"s"),
+    (b"s(lH", b"l"),
+    (b"s(lH)", b"-"),
+    (b"sv", b"()"),
+];
+
+fn runs(alloc: Global, bytes: &[u8], want: &[u8]) -> Result<bool, Memory> {
     let mut vars = Vars::new(alloc)?;
-    run_calls(&mut vars, calls(alloc)?)?;
-    let mut all = written(alloc, vars.get(b"x"))?;
-    all.extend(written_attr(vars.attr(b"x")))?;
-    run_calls(&mut vars, after_calls(alloc)?)?;
-    all.extend(written(alloc, vars.get(b"x"))?.as_slice())?;
-    Ok(all)
-}
-
-fn after_calls(alloc: Global) -> Result<Vec<Call>, Memory> {
-    let mut all = Vec::new(alloc);
-    all.push(Call::DropSub)?;
-    all.push(Call::DropSub)?;
-    all.push(Call::Bind(named(alloc)?, text(alloc, 7)?))?;
-    all.push(Call::SetElem(named(alloc)?, 1, named(alloc)?))?;
-    all.push(Call::UnsetElem(named(alloc)?, 0))?;
-    all.push(Call::Unset(Bytes::new(alloc)))?;
-    all.push(Call::UnsetGlobal(Bytes::new(alloc)))?;
-    Ok(all)
+    run_calls(&mut vars, calls(alloc, bytes)?)?;
+    Ok(written(alloc, vars.get(b"x"))?.as_slice() == want)
 }
 
 #[test]
 fn lists_of_calls_are_made(rt: HostRuntime) {
-    let said = run_both(rt.alloc()).expect(&rt, "memory");
-    assert!(rt; said.as_slice() == b"aar1x".as_slice());
+    for (bytes, want) in CALLS {
+        assert!(rt; runs(rt.alloc(), bytes, want).expect(&rt, "memory"));
+    }
 }
