@@ -1,15 +1,15 @@
 -- Frames by their depth.
-use Rattle.std.proofs.Common.{◌≡◌, ℕ, zero, suc, ◌+◌, ◌-◌, ◌<◌, ◌≤◌, Bool, true, false, cond, List, [], ◌∷◌, length, get_or, set, drop, Option, Some, None, Ok, Err, refl, sym, ap, subst, ◌∙◌, arith, nat_cmp}
-use Rattle.std.specs.Prelude.{IsTrue, is_some, unwrap_or, nat_le, sum_by, if◌then◌else◌}
-use Rattle.std.specs.Option.{option_map, option_map_or, IfSome}
+use Rattle.std.proofs.Common.{◌≡◌, ℕ, zero, suc, ◌+◌, ◌<◌, ◌≤◌, Bool, true, false, cond, [], ◌∷◌, length, get_or, set, Option, Some, None, Ok, Err, refl, sym, ap, subst, ◌∙◌, arith, nat_cmp}
+use Rattle.std.specs.Prelude.{is_some, unwrap_or, nat_le, sum_by, if◌then◌else◌}
+use Rattle.std.specs.Option.{option_map, option_map_or}
 use Rattle.std.specs.Cmp.Lexicographic.{slice_cmp, nat_list_cmp_total}
 use Rattle.std.specs.FinMap as map
 use Rattle.std.specs.FinMap.{len-empty, len-entries}
 use Rattle.std.proofs.lemmas.List.{nil_from_length}
-use Rattle.std.proofs.lemmas.List.Sums.{sum_by-set, sum_by-cons, get_or-le-sum_by}
+use Rattle.std.proofs.lemmas.List.Sums.{sum_by-cons}
 use Rattle.eb_bytes.specs.Text.{Text}
 use Rattle.shell_vars.specs.declared.binding.Binding.{Binding}
-use Rattle.shell_vars.specs.Store.{Names, Frame, Store, holder, call_depth, is_call, binding_at, held_at, with_names, bind_at, unbind_at, names_size, binding_size, size, Counts, Kind, Global, unset_here, admitted}
+use Rattle.shell_vars.specs.Store.{Names, Frame, Store, binding_at, held_at, with_names, bind_at, unbind_at, names_size, binding_size, size, Counts, Global, unset_here, admitted}
 use Rattle.shell_vars.specs.Value.{value_size}
 use Rattle.shell_vars.specs.declared.error.VarErr.TheVariants.{TotalSize}
 use Rattle.std.proofs.lemmas.Bool.Decides.{nat_tests}
@@ -19,7 +19,7 @@ use Rattle.shell_vars.specs.declared.change.Change.{Change}
 use Rattle.shell_vars.specs.declared.kind.FrameKind.{FrameKind}
 use Rattle.shell_vars.proofs.Sizes.{size-changed, lost-le}
 use Rattle.shell_vars.proofs.NameOrder.{apart}
-use Rattle.shell_vars.proofs.Sorted.{had, total-insert, total-remove}
+use Rattle.shell_vars.proofs.Sorted.{total-insert, total-remove}
 
 pub binding_at-frame : (i : ℕ) (name : Text) (s : Store) (d : Frame) → i < length s → binding_at i name s ≡ map.get (get_or s i d).names name
 binding_at-frame i name [] d h = absurd (omega arith)

@@ -1,16 +1,15 @@
 -- Elements that come behind the greatest index.
-use Rattle.std.proofs.Common.{◌≡◌, ℕ, ◌+◌, ◌<◌, ◌≤◌, Bool, true, false, T, List, [], ◌∷◌, ◌++◌, length, refl, sym, ap, subst, ◌∙◌, arith, Ordering, Less, Equal, Greater, nat_cmp, append_assoc, append-nil, take, drop, set, get_or}
+use Rattle.std.proofs.Common.{◌≡◌, ℕ, ◌+◌, ◌<◌, ◌≤◌, T, List, [], ◌∷◌, ◌++◌, length, refl, sym, ap, subst, ◌∙◌, arith, Less, Equal, Greater, nat_cmp, append_assoc, append-nil, take, drop, set, get_or}
 use Rattle.std.specs.Prelude.{IsTrue, nat_lt, map as map_list}
-use Rattle.std.specs.List.{list_all}
 use Rattle.std.specs.Cmp.{nat_cmp_total, ranked}
 use Rattle.std.specs.FinMap as map
-use Rattle.std.specs.FinMap.{put, is_sorted, same_entries_map, entries-insert, entries-from_sorted, entries_sorted, len-entries}
+use Rattle.std.specs.FinMap.{put, is_sorted, same_entries_map, entries-insert, entries-from_sorted, entries_sorted}
 use Rattle.std.specs.FinMap.Entries.{by_order, below_all}
 use Rattle.std.specs.Ordering.{is_lt}
 use Rattle.std.proofs.lemmas.Bool.Decides.{nat_tests}
 use Rattle.std.proofs.lemmas.List.{drop_more, take_more_set, drop-set-lt, drop_all, take_all}
 use Rattle.eb_bytes.specs.Text.{Text}
-use Rattle.shell_vars.specs.Elements.{Elements, index_behind, next_index, put_from, joined, can_join, have_indices}
+use Rattle.shell_vars.specs.Elements.{Elements, index_behind, next_index, put_from, joined, have_indices}
 use Rattle.shell_vars.specs.Numbered.{numbered}
 use Rattle.shell_vars.proofs.Sorted.{told, tells, entries-seen, and_left, and_right, is_less_from, and_true, and_first, and_second}
 

@@ -1,5 +1,5 @@
 -- What calls make of a store, by the steps that the code takes.
-use Rattle.std.proofs.Common.{◌≡◌, ℕ, zero, suc, ◌+◌, ◌<◌, ◌≤◌, Bool, true, false, cond, List, [], ◌∷◌, length, Option, Some, None, Result, Ok, Err, refl, sym, ap, subst, ◌∙◌, arith, nat_cmp, Ordering, Less, Equal, Greater}
+use Rattle.std.proofs.Common.{◌≡◌, ℕ, zero, suc, ◌<◌, ◌≤◌, Bool, true, false, cond, [], ◌∷◌, length, Option, Some, None, Ok, Err, refl, sym, ap, subst, ◌∙◌, arith, nat_cmp, Ordering, Less, Equal, Greater}
 use Rattle.std.specs.Prelude.{IsSome, is_some, unwrap_or, ℤ}
 use Rattle.std.specs.Option.{option_map}
 use Rattle.std.specs.FinMap as map
@@ -9,7 +9,6 @@ use Rattle.std.specs.Ordering.{eq_by_cmp, is_eq}
 use Rattle.eb_bytes.specs.Text.{Text}
 use Rattle.shell_vars.specs.declared.binding.Binding.{Binding}
 use Rattle.shell_vars.specs.declared.change.Change.{Change}
-use Rattle.shell_vars.specs.declared.value.Value.{Value}
 use Rattle.shell_vars.specs.declared.value.Value.TheVariants as of
 use Rattle.shell_vars.specs.declared.error.VarErr.{VarErr}
 use Rattle.shell_vars.specs.declared.error.VarErr.TheVariants.{Readonly, LocalOutside, BadSubscript, ValueSize, TotalSize, Memory}
@@ -17,7 +16,7 @@ use Rattle.shell_vars.specs.Elements.{index_of}
 use Rattle.shell_vars.specs.Value.{elements_of, without_element}
 use Rattle.shell_vars.specs.Store.{Names, Store, Frame, holder, binding_at, held_at, bind_at, unset_here, size, admitted}
 use Rattle.shell_vars.specs.Stores.{Refuses}
-use Rattle.shell_vars.specs.Changes.{changed, lost, gained, new_name}
+use Rattle.shell_vars.specs.Changes.{changed, gained, new_name}
 use Rattle.shell_vars.specs.Calls.{lessened, revalued, replaced, unset_elem, unset_elem_in}
 use Rattle.shell_vars.proofs.NameOrder.{apart}
 use Rattle.shell_vars.proofs.Frames.{size-change, admitted_ok}

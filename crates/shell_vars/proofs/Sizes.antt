@@ -1,9 +1,9 @@
 -- What a change does to the size of a value.
-use Rattle.std.proofs.Common.{◌≡◌, ℕ, ◌+◌, ◌-◌, ◌<◌, ◌≤◌, List, [], ◌∷◌, ◌++◌, length, Option, Some, None, refl, sym, ap, ◌∙◌, arith, nat_cmp}
+use Rattle.std.proofs.Common.{◌≡◌, ℕ, ◌+◌, ◌≤◌, List, [], ◌∷◌, length, Option, Some, None, refl, ap, ◌∙◌, arith}
 use Rattle.std.specs.Prelude.{sum_by}
 use Rattle.std.specs.Cmp.{nat_cmp_total}
 use Rattle.std.specs.FinMap as map
-use Rattle.std.specs.FinMap.{entries_sorted, get-empty, nat_cmp-IsAntisymmetric}
+use Rattle.std.specs.FinMap.{entries_sorted, nat_cmp-IsAntisymmetric}
 use Rattle.std.proofs.lemmas.List.Sums.{sum_by-append, sum_by-cons}
 use Rattle.eb_bytes.specs.Text.{Text}
 use Rattle.shell_vars.specs.declared.binding.Binding.{Binding}
@@ -14,8 +14,7 @@ use Rattle.shell_vars.specs.declared.change.Change.TheVariants.{Set, Element, Jo
 use Rattle.shell_vars.specs.Elements.{Elements, element_size, elements_size, next_index, joined}
 use Rattle.shell_vars.specs.Numbered.{numbered}
 use Rattle.shell_vars.specs.Value.{elements_of, value_size}
-use Rattle.shell_vars.specs.Store.{unset_here}
-use Rattle.shell_vars.specs.Changes.{changed, lost, gained, size_at}
+use Rattle.shell_vars.specs.Changes.{changed, lost, gained}
 use Rattle.shell_vars.proofs.Sorted.{had, total-insert, total-remove}
 use Rattle.shell_vars.proofs.Join.{entries-put_from, under_last}
 use Rattle.shell_vars.proofs.Single.{entries-empty, entries-single}

@@ -1,5 +1,5 @@
 -- What each call makes of a store, or the refusal that comes first.
-use Rattle.std.specs.Prelude.{ℕ, ℤ, suc, Bool, true, false, ◌&&◌, ◌||◌, ◌==◌, nat_eq, [], ◌∷◌, List, is_some, unwrap_or, Option, Some, None, Result, Ok, Err, if◌then◌else◌}
+use Rattle.std.specs.Prelude.{ℕ, ℤ, Bool, true, false, ◌&&◌, ◌||◌, ◌==◌, [], ◌∷◌, is_some, Option, Some, None, Result, Ok, Err, if◌then◌else◌}
 use Rattle.std.specs.Option.{option_and_then, option_map_or}
 use Rattle.std.specs.FinMap as map
 use Rattle.eb_bytes.specs.Text.{Text}
@@ -11,7 +11,7 @@ use Rattle.shell_vars.specs.declared.kind.FrameKind.TheVariants as opened
 use Rattle.shell_vars.specs.declared.error.VarErr.{VarErr}
 use Rattle.shell_vars.specs.declared.error.VarErr.TheVariants.{Readonly, LocalOutside}
 use Rattle.shell_vars.specs.Value.{checked, element_set, appended, element_unset}
-use Rattle.shell_vars.specs.Store.{Kind, Global, Call, Prefix, Frame, Store, no_attributes, unset_here, holder, call_depth, global_depth, target, binding_at, held_at, seen, bind_at, unbind_at, admitted}
+use Rattle.shell_vars.specs.Store.{Kind, Global, Call, Prefix, Store, no_attributes, unset_here, holder, call_depth, global_depth, target, binding_at, held_at, seen, bind_at, unbind_at, admitted}
 
 -- one global frame without names
 abbrev pub fresh : Store

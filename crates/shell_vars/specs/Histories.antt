@@ -1,5 +1,5 @@
 -- Lists of calls.
-use Rattle.std.specs.Prelude.{ℕ, Bool, List, [], ◌∷◌, length, nat_lt, Option, Some, None, Result, Ok, Err, if◌then◌else◌}
+use Rattle.std.specs.Prelude.{List, [], ◌∷◌, length, nat_lt, Result, Ok, Err, if◌then◌else◌}
 use Rattle.shell_vars.specs.declared.call.Call.{Call}
 use Rattle.shell_vars.specs.declared.call.Call.TheVariants.{Set, SetElem, Append, Local, Bind, Mark, Unset, UnsetElem, SetGlobal, UnsetGlobal, PushFrame, PopFrame, OpenSub, DropSub}
 use Rattle.shell_vars.specs.declared.error.VarErr.{VarErr}

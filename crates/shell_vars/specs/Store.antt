@@ -1,6 +1,6 @@
 -- Stores: lists of frames, the innermost first, the global one last (Bash Reference Manual, "Shell Functions").
 use Rattle.std.specs.Prelude.{◌≡◌, ℕ, zero, suc, ◌+◌, ◌-◌, ◌<◌, ◌≤◌, Bool, true, false, List, [], ◌∷◌, length, nat_le, sum_by, unwrap_or, Option, Some, None, Result, Ok, Err, if◌then◌else◌, refl}
-use Rattle.std.specs.Option.{option_map, option_and_then, option_map_or}
+use Rattle.std.specs.Option.{option_map, option_and_then}
 use Rattle.std.specs.Ordering.{nat_cmp}
 use Rattle.std.specs.Cmp.Lexicographic.{slice_cmp}
 use Rattle.std.specs.FinMap as map
@@ -9,7 +9,6 @@ use Rattle.eb_bytes.specs.Text.{Text}
 use Rattle.shell_vars.specs.declared.attr.Attr.{Attr}
 use Rattle.shell_vars.specs.declared.binding.Binding.{Binding}
 use Rattle.shell_vars.specs.contracts.binding.Binding as binding
-use Rattle.shell_vars.specs.declared.value.Value.{Value}
 use Rattle.shell_vars.specs.declared.error.VarErr.{VarErr}
 use Rattle.shell_vars.specs.declared.error.VarErr.TheVariants.{TotalSize}
 use Rattle.shell_vars.specs.Value.{value_size}

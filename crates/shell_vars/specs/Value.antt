@@ -1,5 +1,5 @@
 -- Values, and what assignments make of them (Bash Reference Manual, "Shell Parameters" and "Arrays").
-use Rattle.std.specs.Prelude.{ℕ, ℤ, pos, ◌+◌, Bool, [], ◌++◌, length, nat_le, unwrap_or, Option, Some, None, Result, Ok, Err, if◌then◌else◌}
+use Rattle.std.specs.Prelude.{ℕ, ℤ, ◌+◌, Bool, [], ◌++◌, length, nat_le, unwrap_or, Option, Some, None, Result, Ok, Err, if◌then◌else◌}
 use Rattle.std.specs.List.{list_all}
 use Rattle.std.specs.FinMap as map
 use Rattle.eb_bytes.specs.Text.{Text}
@@ -7,7 +7,7 @@ use Rattle.shell_vars.specs.declared.value.Value.{Value}
 use Rattle.shell_vars.specs.declared.value.Value.TheVariants as value
 use Rattle.shell_vars.specs.declared.error.VarErr.{VarErr}
 use Rattle.shell_vars.specs.declared.error.VarErr.TheVariants.{BadSubscript, ValueSize}
-use Rattle.shell_vars.specs.Elements.{Elements, next_index, joined, can_join, index_of, elements_size}
+use Rattle.shell_vars.specs.Elements.{Elements, joined, can_join, index_of, elements_size}
 
 -- the elements of a value: a text is its own element 0
 abbrev pub elements_of : Option Value → Elements

@@ -1,4 +1,4 @@
-use Rattle.std.proofs.Common.{◌≡◌, ◌+◌, ◌<◌, ◌≤◌, sym, refl, length, arith}
+use Rattle.std.proofs.Common.{refl, arith}
 use Rattle.shell_vars.proofs.Join.{renumber_step, renumbered}
 use Rattle.shell_vars.proofs.elements.renumber.Goals as goal
 

@@ -1,4 +1,4 @@
-use Rattle.std.proofs.Common.{◌≡◌, Option, Some, None, subst, w64}
+use Rattle.std.proofs.Common.{◌≡◌, Some, None, subst, w64}
 use Rattle.std.proofs.lemmas.Int.{to_z-of_z}
 use Rattle.shell_vars.specs.Elements.{index_of}
 use Rattle.shell_vars.specs.Value.{elements_of}

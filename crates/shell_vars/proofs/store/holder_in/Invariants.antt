@@ -1,5 +1,5 @@
 use Rattle.std.proofs.Common.{◌≡◌, drop}
-use Rattle.shell_vars.specs.Store.{holder, call_depth}
+use Rattle.shell_vars.specs.Store.{holder}
 use Rattle.shell_vars.proofs.Frames.{further_out}
 use Rattle.shell_vars.proofs.store.holder_in.Given as goal
 

@@ -1,5 +1,4 @@
-use Rattle.std.proofs.Common.{sym, ap, ◌∙◌}
-use Rattle.std.specs.FinMap as map
+use Rattle.std.proofs.Common.{◌∙◌}
 use Rattle.shell_vars.proofs.Sorted.{entries-seen}
 use Rattle.shell_vars.proofs.elements.Elements.as_slice.Goals as goal
 

@@ -1,5 +1,4 @@
-use Rattle.std.proofs.Common.{◌≡◌, ℕ, ◌+◌, sym, ap, ◌∙◌, arith}
-use Rattle.std.specs.FinMap as map
+use Rattle.std.proofs.Common.{◌≡◌, ◌+◌, ap, ◌∙◌, arith}
 use Rattle.shell_vars.specs.Elements.{index_behind}
 use Rattle.shell_vars.proofs.Behind.{index_behind-last, index_behind-none, index_behind-le}
 use Rattle.shell_vars.proofs.elements.Elements.next_index.Goals as goal

@@ -1,6 +1,6 @@
 use Rattle.std.specs.Cmp.{nat_cmp_total}
 use Rattle.std.specs.FinMap.{nat_cmp-IsAntisymmetric}
-use Rattle.std.proofs.Common.{◌∙◌, arith}
+use Rattle.std.proofs.Common.{◌∙◌}
 use Rattle.shell_vars.specs.Elements.{is_index}
 use Rattle.shell_vars.proofs.Sorted.{removed, sorted_without, all_without, seen_without, seen_unchanged}
 use Rattle.shell_vars.proofs.elements.Elements.remove.Goals as goal

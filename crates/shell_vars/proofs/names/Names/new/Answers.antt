@@ -1,4 +1,3 @@
-use Rattle.std.proofs.Common.{ap}
 use Rattle.shell_vars.proofs.Sorted.{from_sorted-nil}
 use Rattle.shell_vars.proofs.names.Names.new.Goals as goal
 

@@ -1,6 +1,6 @@
 use Rattle.std.specs.Cmp.Lexicographic.{nat_list_cmp_total}
 use Rattle.shell_vars.proofs.NameOrder.{apart}
-use Rattle.std.proofs.Common.{◌∙◌, arith}
+use Rattle.std.proofs.Common.{◌∙◌}
 use Rattle.shell_vars.proofs.Sorted.{removed, sorted_without, seen_without, seen_unchanged}
 use Rattle.shell_vars.proofs.names.Names.remove.Goals as goal
 

@@ -1,4 +1,4 @@
-use Rattle.std.proofs.Common.{◌≡◌, ap, ◌∙◌, ◌-◌, ◌^◌}
+use Rattle.std.proofs.Common.{ap, ◌∙◌, ◌-◌, ◌^◌}
 use Rattle.std.specs.Prelude.{min, sum_by}
 use Rattle.shell_vars.specs.Store.{binding_size}
 use Rattle.shell_vars.proofs.Sorted.{entries-seen}

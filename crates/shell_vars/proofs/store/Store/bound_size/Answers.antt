@@ -1,6 +1,5 @@
-use Rattle.std.proofs.Common.{◌≡◌, ◌+◌, length, ap, arith}
-use Rattle.shell_vars.specs.Store.{size, unbind_at}
-use Rattle.shell_vars.specs.Value.{value_size}
+use Rattle.std.proofs.Common.{ap, arith}
+use Rattle.shell_vars.specs.Store.{size}
 use Rattle.shell_vars.proofs.Frames.{bound_is, unbound_is}
 use Rattle.shell_vars.proofs.store.Store.bound_size.Goals as goal
 

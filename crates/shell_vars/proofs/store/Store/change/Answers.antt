@@ -1,4 +1,4 @@
-use Rattle.std.proofs.Common.{◌≡◌, ◌<◌, ap, sym, ◌∙◌, subst, arith, length, set, Ok}
+use Rattle.std.proofs.Common.{◌<◌, ap, sym, ◌∙◌, subst, arith, length, Ok}
 use Rattle.std.specs.FinMap as map
 use Rattle.shell_vars.specs.Store.{size, held_at, bind_at}
 use Rattle.shell_vars.specs.Changes.{changed, CanChange}

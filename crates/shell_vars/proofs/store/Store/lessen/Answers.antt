@@ -1,6 +1,6 @@
-use Rattle.std.proofs.Common.{◌≡◌, ◌≤◌, arith}
+use Rattle.std.proofs.Common.{arith}
 use Rattle.std.proofs.lemmas.Result.{IfErr-weaker}
-use Rattle.shell_vars.specs.Store.{size, bind_at, held_at}
+use Rattle.shell_vars.specs.Store.{bind_at, held_at}
 use Rattle.shell_vars.specs.Changes.{changed}
 use Rattle.shell_vars.proofs.Outcomes.{only_memory, size-lessened}
 use Rattle.shell_vars.proofs.store.Store.lessen.Goals as goal

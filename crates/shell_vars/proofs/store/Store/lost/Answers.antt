@@ -1,5 +1,5 @@
 use Rattle.std.proofs.Common.{◌≡◌, ap, sym, ◌∙◌, arith}
-use Rattle.std.specs.Prelude.{unwrap_or, Some, None}
+use Rattle.std.specs.Prelude.{unwrap_or}
 use Rattle.shell_vars.specs.Store.{size, held_at, unset_here}
 use Rattle.shell_vars.specs.Changes.{lost}
 use Rattle.shell_vars.proofs.Frames.{lost-le-size, lost-unset}

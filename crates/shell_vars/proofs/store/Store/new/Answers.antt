@@ -1,4 +1,4 @@
-use Rattle.std.proofs.Common.{◌≡◌, [], ◌∷◌, ap, ◌∙◌, rules}
+use Rattle.std.proofs.Common.{rules}
 use Rattle.shell_vars.proofs.Frames.{counts-fresh}
 use Rattle.shell_vars.proofs.store.Store.new.Goals as goal
 

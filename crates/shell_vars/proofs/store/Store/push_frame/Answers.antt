@@ -1,4 +1,4 @@
-use Rattle.std.proofs.Common.{◌≡◌, [], ◌∷◌, ap, ◌∙◌, rules}
+use Rattle.std.proofs.Common.{rules}
 use Rattle.shell_vars.proofs.Frames.{counts-pushed}
 use Rattle.shell_vars.proofs.store.Store.push_frame.Goals as goal
 

@@ -1,4 +1,4 @@
-use Rattle.std.proofs.Common.{◌≡◌, ◌<◌, ap, sym, ◌∙◌, length, arith}
+use Rattle.std.proofs.Common.{◌<◌, ap, ◌∙◌, length, arith}
 use Rattle.std.specs.FinMap as map
 use Rattle.shell_vars.specs.Store.{size, unbind_at}
 use Rattle.shell_vars.proofs.Frames.{unbound_frames, counts_after, length-with_names}

@@ -1,4 +1,4 @@
-use Rattle.std.proofs.Common.{◌≡◌, Ok, Some, None, sym, ◌∙◌, subst, w64}
+use Rattle.std.proofs.Common.{◌≡◌, Ok, subst, w64}
 use Rattle.std.proofs.lemmas.Int.{to_z-of_z}
 use Rattle.shell_vars.specs.Store.{held_at}
 use Rattle.shell_vars.specs.Calls.{lessened}
