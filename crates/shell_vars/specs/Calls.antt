@@ -82,7 +82,8 @@ abbrev pub local_at : ℕ → Text → Option Value → Store → Result Store V
 local_at i name (Some v) s = written i name (λ old. checked v) s
 local_at i name None s = if is_some (binding_at i name s) then Ok s else admitted (bind_at i name unset_here s)
 
--- without a Call frame there is nothing to bind in; and a name that is seen in the global frame and readonly there stays
+-- without a Call frame there is nothing to bind in; and a name that is seen in the global frame and readonly there
+-- stays
 abbrev pub local_in : Option ℕ → Text → Option Value → Store → Result Store VarErr
 local_in None name v s = Err LocalOutside
 local_in (Some i) name v s = if is_readonly_global name s then Err Readonly else local_at i name v s

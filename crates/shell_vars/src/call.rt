@@ -43,8 +43,8 @@ pub enum Call {
     DropSub,
 }
 
-/// Makes these calls, one after another. One that is refused changes nothing, nor does one that may not be made: a `bind`
-/// where no Prefix frame is innermost, a `pop_frame` of the global frame, a `drop_sub` without a subshell.
+/// Makes these calls, one after another. One that is refused changes nothing, nor does one that may not be made: a
+/// `bind` where no Prefix frame is innermost, a `pop_frame` of the global frame, a `drop_sub` without a subshell.
 ///
 /// # Errors
 /// `Memory` where a call wanted memory; those before it were made.

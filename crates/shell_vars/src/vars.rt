@@ -77,8 +77,8 @@ impl Vars {
         self.present.write(depth, name, value)
     }
 
-    /// Gives a name an element where `set` would give it a value; a text becomes element 0 of an array first. A negative
-    /// subscript has the greatest index plus one added.
+    /// Gives a name an element where `set` would give it a value; a text becomes element 0 of an array first. A
+    /// negative subscript has the greatest index plus one added.
     ///
     /// # Errors
     /// `Readonly`, `BadSubscript` where the subscript is negative still, `ValueSize`, `TotalSize`, in this order, and
@@ -97,8 +97,8 @@ impl Vars {
     /// is no value it is `set`.
     ///
     /// # Errors
-    /// `Readonly`, `BadSubscript` where an index would pass 9223372036854775807, `ValueSize`, `TotalSize`, in this order,
-    /// and `Memory`.
+    /// `Readonly`, `BadSubscript` where an index would pass 9223372036854775807, `ValueSize`, `TotalSize`, in this
+    /// order, and `Memory`.
     pub fn append(&mut self, name: &[u8], value: Value) -> Result<(), VarErr>
         ensures ok { OnOk result (call.append name.now value self.old.present ≡ Ok self.new.present) }
         ensures refused { IfErr result (λ e. Refuses e (call.append name.now value self.old.present)) }
@@ -108,11 +108,13 @@ impl Vars {
         self.present.append(name, value)
     }
 
-    /// Binds a name in the innermost Call frame. Without a value it gets the mark there, unless it is bound there already.
+    /// Binds a name in the innermost Call frame. Without a value it gets the mark there, unless it is bound there
+    /// already.
     ///
     /// # Errors
-    /// `LocalOutside` where there is no Call frame; `Readonly` where the name is readonly there and would change, or where
-    /// it is seen in the global frame and is readonly there; `ValueSize`, `TotalSize`, in this order, and `Memory`.
+    /// `LocalOutside` where there is no Call frame; `Readonly` where the name is readonly there and would change, or
+    /// where it is seen in the global frame and is readonly there; `ValueSize`, `TotalSize`, in this order, and
+    /// `Memory`.
     pub fn local(&mut self, name: &[u8], value: Option<Value>) -> Result<(), VarErr>
         ensures ok { OnOk result (call.local name.now value self.old.present ≡ Ok self.new.present) }
         ensures refused { IfErr result (λ e. Refuses e (call.local name.now value self.old.present)) }
@@ -150,8 +152,8 @@ impl Vars {
         self.present.mark(name, attr)
     }
 
-    /// Unsets a name in the innermost frame that has it, and answers whether it had a value. In the innermost Call frame
-    /// the mark without attributes stays; in another one the binding goes, and what it hid is seen.
+    /// Unsets a name in the innermost frame that has it, and answers whether it had a value. In the innermost Call
+    /// frame the mark without attributes stays; in another one the binding goes, and what it hid is seen.
     ///
     /// # Errors
     /// `Readonly`, and `Memory`.
@@ -165,8 +167,8 @@ impl Vars {
         self.present.unset(name)
     }
 
-    /// Takes an element away from the value that `get` gives; a text becomes element 0 of an array first. Where there is
-    /// no such element the binding stays as it is.
+    /// Takes an element away from the value that `get` gives; a text becomes element 0 of an array first. Where there
+    /// is no such element the binding stays as it is.
     ///
     /// # Errors
     /// `Readonly` where the binding is readonly, `BadSubscript` where a negative subscript with the greatest index plus
