@@ -1,0 +1,171 @@
+ghost use Rattle.std.specs.Prelude.{◌≡◌, ◌^◌, ◌<◌, ◌++◌, [], unwrap_or, IfOk, IfErr, IfSome, OnOk, Some};
+ghost use Rattle.std.specs.FinMap as map;
+ghost use Rattle.shell_vars.specs.Elements.{index_of};
+ghost use Rattle.shell_vars.specs.Value.{elements_of, checked, with_element, element_set, appended};
+ghost use Rattle.shell_vars.specs.Calls.{rebound, rewritten, lessened};
+ghost use Rattle.shell_vars.specs.Store.{unset_here};
+ghost use Rattle.shell_vars.specs.Stores.{Refuses};
+ghost use Rattle.shell_vars.specs.Changes.{Plans, PlansSome};
+ghost use Rattle.shell_vars.specs.declared.value.Value.TheVariants as of;
+
+use crate::binding::Binding;
+use crate::change::Change;
+use crate::elements::Elements;
+use crate::error::VarErr;
+use crate::value::{Value, element, next_index};
+use eb_bytes::{Bytes, Memory};
+use std::alloc::Global;
+
+/// How a binding gets this value.
+pub(crate) fn plan_set(held: &Binding, value: Value) -> Result<Change, VarErr>
+    ensures { Plans result (rewritten (λ old. checked value) held.now) held.now }
+{
+    if held.attr.readonly {
+        return Err(VarErr::Readonly);
+    }
+    plan_value(held, value)
+}
+
+/// How a binding gets this text as an element.
+pub(crate) fn plan_element(held: &Binding, at: i64, text: Bytes) -> Result<Change, VarErr>
+    ensures { Plans result (rewritten (element_set at text) held.now) held.now }
+{
+    if held.attr.readonly {
+        return Err(VarErr::Readonly);
+    }
+    match index(&held.value, at) {
+        Some(index) => plan_text(held, index, text),
+        None => Err(VarErr::BadSubscript),
+    }
+}
+
+/// How a binding gets a value behind its own.
+pub(crate) fn plan_append(alloc: Global, held: &Binding, value: Value) -> Result<Change, VarErr>
+    ensures { Plans result (rewritten (appended value) held.now) held.now }
+{
+    if held.attr.readonly {
+        return Err(VarErr::Readonly);
+    }
+    match value {
+        Value::Text(text) => plan_append_text(alloc, held, text),
+        Value::Array(more) => plan_append_array(held, more),
+    }
+}
+
+/// How a binding loses an element, if it has that.
+pub(crate) fn plan_without(held: &Binding, at: i64) -> Result<Option<Change>, VarErr>
+    ensures { PlansSome result (lessened at held.now) held.now }
+{
+    if held.attr.readonly {
+        return Err(VarErr::Readonly);
+    }
+    let Some(index) = index(&held.value, at) else {
+        return Err(VarErr::BadSubscript);
+    };
+    if element(&held.value, index).is_some() {
+        Ok(Some(Change::Without(index)))
+    } else {
+        Ok(None)
+    }
+}
+
+/// That the mark has no element to lose, though a negative subscript has no meaning there.
+pub(crate) fn plan_nowhere(at: i64) -> Result<(), VarErr>
+    ensures ok { OnOk result (lessened at unset_here ≡ Ok unset_here) }
+    ensures refused { IfErr result (λ e. Refuses e (lessened at unset_here)) }
+{
+    match index(&None, at) {
+        Some(_) => Ok(()),
+        None => Err(VarErr::BadSubscript),
+    }
+}
+
+// The value, where its texts are short enough.
+fn plan_value(held: &Binding, value: Value) -> Result<Change, VarErr>
+    ensures { Plans result (rebound (checked value) held.now) held.now }
+{
+    if value.is_short() {
+        Ok(Change::Set(value))
+    } else {
+        Err(VarErr::ValueSize)
+    }
+}
+
+// A text at an index, where it is short enough.
+fn plan_text(held: &Binding, index: u64, text: Bytes) -> Result<Change, VarErr>
+    requires { index < 2 ^ 63 }
+    ensures { Plans result (rebound (with_element (Some index) text held.now.value) held.now) held.now }
+{
+    if text.len() <= 1_048_576 {
+        Ok(Change::Element(index, text))
+    } else {
+        Err(VarErr::ValueSize)
+    }
+}
+
+// A text behind a text or behind element 0.
+fn plan_append_text(alloc: Global, held: &Binding, text: Bytes) -> Result<Change, VarErr>
+    ensures { Plans result (rebound (appended (of.Text text) held.now.value) held.now) held.now }
+{
+    match &held.value {
+        None => plan_value(held, Value::Text(text)),
+        Some(Value::Text(first)) => {
+            let joined = join_texts(alloc, first.as_slice(), text.as_slice())?;
+            plan_value(held, Value::Text(joined))
+        }
+        Some(Value::Array(elements)) => {
+            let first = first_text(elements);
+            let joined = join_texts(alloc, first, text.as_slice())?;
+            plan_text(held, 0, joined)
+        }
+    }
+}
+
+// Elements behind the greatest index.
+fn plan_append_array(held: &Binding, more: Elements) -> Result<Change, VarErr>
+    ensures { Plans result (rebound (appended (of.Array more) held.now.value) held.now) held.now }
+{
+    if held.value.is_none() {
+        return plan_value(held, Value::Array(more));
+    }
+    let room = (1u64 << 63) - next_index(&held.value);
+    if more.len() as u64 > room {
+        return Err(VarErr::BadSubscript);
+    }
+    if more.are_short() {
+        Ok(Change::Join(more))
+    } else {
+        Err(VarErr::ValueSize)
+    }
+}
+
+// Element 0, and no bytes where there is none.
+fn first_text(elements: &Elements) -> &[u8]
+    ensures { result.now ≡ unwrap_or (map.get elements.now 0) [] }
+{
+    match elements.get(0) {
+        Some(text) => text.as_slice(),
+        None => b"",
+    }
+}
+
+// One text behind the other.
+fn join_texts(alloc: Global, first: &[u8], second: &[u8]) -> Result<Bytes, Memory>
+    ensures { IfOk result (λ joined. joined ≡ first.now ++ second.now) }
+{
+    let mut joined = Bytes::from_slice(alloc, first)?;
+    joined.extend(second)?;
+    Ok(joined)
+}
+
+// The index that a subscript means.
+fn index(value: &Option<Value>, at: i64) -> Option<u64>
+    ensures value { result ≡ index_of (elements_of value.now) at }
+    ensures within { IfSome result (λ index. index < 2 ^ 63) }
+{
+    if at >= 0 {
+        Some(at as u64)
+    } else {
+        next_index(value).checked_sub(at.unsigned_abs())
+    }
+}

@@ -1,0 +1,181 @@
+ghost use Rattle.std.specs.Prelude.{◌≡◌, ◌-◌, ◌^◌, ◌<◌, ◌≤◌, min, IsTrue, Some, IfOk, OnOk, OnErr};
+ghost use Rattle.std.specs.FinMap as map;
+ghost use Rattle.std.specs.Option.{option_copied};
+ghost use Rattle.shell_vars.specs.Elements.{can_join, joined};
+ghost use Rattle.shell_vars.specs.Elements.{next_index as next_index_of};
+ghost use Rattle.shell_vars.specs.Value.{elements_of, value_size, are_short};
+ghost use Rattle.shell_vars.specs.Changes.{size_at};
+ghost use Rattle.shell_vars.specs.declared.value.Value.TheVariants as of;
+
+use crate::elements::Elements;
+use eb_bytes::{Bytes, Memory};
+use std::alloc::Global;
+
+/// A variable's value (Bash Reference Manual, "Shell Parameters" and "Arrays").
+#[derive(Drop)]
+pub enum Value {
+    /// A text.
+    Text(Bytes),
+    /// An indexed array.
+    Array(Elements),
+}
+
+impl Value {
+    /// An equal value.
+    ///
+    /// # Errors
+    /// `Memory` where there is no room for it.
+    pub fn copy(&self, alloc: Global) -> Result<Value, Memory>
+        ensures { IfOk result (λ value. value ≡ self.now) }
+    {
+        match self {
+            Value::Text(text) => Ok(Value::Text(Bytes::from_slice(alloc, text.as_slice())?)),
+            Value::Array(elements) => Ok(Value::Array(elements.copy(alloc)?)),
+        }
+    }
+
+    /// Whether the text, or each element by itself, has at most 1,048,576 bytes.
+    pub(crate) fn is_short(&self) -> bool
+        ensures { result ≡ are_short self.now }
+    {
+        match self {
+            Value::Text(text) => text.len() <= 1_048_576,
+            Value::Array(elements) => elements.are_short(),
+        }
+    }
+
+    /// For each element its length and 16, together; 18446744073709551615 where that is more.
+    pub(crate) fn size(&self) -> u64
+        ensures { result ≡ min (value_size (Some self.now)) (2 ^ 64 - 1) }
+    {
+        match self {
+            Value::Text(text) => (text.len() as u64).saturating_add(16),
+            Value::Array(elements) => elements.size(),
+        }
+    }
+}
+
+/// The size of a value, and 0 where there is none.
+pub(crate) fn size_of(value: &Option<Value>) -> u64
+    ensures { result ≡ min (value_size value.now) (2 ^ 64 - 1) }
+{
+    match value {
+        Some(value) => value.size(),
+        None => 0,
+    }
+}
+
+/// The size of the element that has this index, and 0 where there is none.
+pub(crate) fn element_size(value: &Option<Value>, at: u64) -> u64
+    ensures { result ≡ min (size_at at value.now) (2 ^ 64 - 1) }
+{
+    match element(value, at) {
+        Some(text) => (text.len() as u64).saturating_add(16),
+        None => 0,
+    }
+}
+
+/// The element that has this index: a text is its own element 0.
+pub(crate) fn element(value: &Option<Value>, at: u64) -> Option<&Bytes>
+    ensures { option_copied result ≡ map.get (elements_of value.now) at }
+{
+    match value {
+        None => None,
+        Some(Value::Text(text)) => text_element(text, at),
+        Some(Value::Array(elements)) => elements.get(at),
+    }
+}
+
+// The element of a text that has this index.
+fn text_element(text: &Bytes, at: u64) -> Option<&Bytes>
+    ensures { option_copied result ≡ map.get (elements_of (Some (of.Text text.now))) at }
+{
+    if at == 0 { Some(text) } else { None }
+}
+
+/// One more than the greatest index, and 0 without elements.
+pub(crate) fn next_index(value: &Option<Value>) -> u64
+    ensures value { result ≡ next_index_of (elements_of value.now) }
+    ensures within { result ≤ 2 ^ 63 }
+{
+    match value {
+        None => 0,
+        Some(Value::Text(_)) => 1,
+        Some(Value::Array(elements)) => elements.next_index(),
+    }
+}
+
+/// A copy of a value's elements.
+///
+/// # Errors
+/// `Memory` where there is no room for it.
+pub(crate) fn copy_elements(alloc: Global, value: &Option<Value>) -> Result<Elements, Memory>
+    ensures { IfOk result (λ elements. elements ≡ elements_of value.now) }
+{
+    match value {
+        None => Ok(Elements::new(alloc)),
+        Some(Value::Text(text)) => {
+            let mut elements = Elements::new(alloc);
+            elements.insert(0, Bytes::from_slice(alloc, text.as_slice())?)?;
+            Ok(elements)
+        }
+        Some(Value::Array(elements)) => elements.copy(alloc),
+    }
+}
+
+/// Puts a text at an index; a text value becomes element 0 of an array first.
+///
+/// # Errors
+/// `Memory` where there is no room for it; the value is as before then.
+pub(crate) fn put_element(
+    alloc: Global,
+    value: &mut Option<Value>,
+    at: u64,
+    text: Bytes,
+) -> Result<(), Memory>
+    requires { at < 2 ^ 63 }
+    ensures ok { OnOk result (value.new ≡ Some (of.Array (map.insert (elements_of value.old) at text))) }
+    ensures err { OnErr result (value.new ≡ value.old) }
+{
+    if let Some(Value::Array(elements)) = value {
+        return elements.insert(at, text);
+    }
+    let mut elements = copy_elements(alloc, value)?;
+    elements.insert(at, text)?;
+    *value = Some(Value::Array(elements));
+    Ok(())
+}
+
+/// Puts other elements behind the greatest index; a text value becomes element 0 of an array first.
+///
+/// # Errors
+/// `Memory` where there is no room for them; the value is as before then.
+pub(crate) fn join_elements(
+    alloc: Global,
+    value: &mut Option<Value>,
+    more: Elements,
+) -> Result<(), Memory>
+    requires { IsTrue (can_join (elements_of value.old) more) }
+    ensures ok { OnOk result (value.new ≡ Some (of.Array (joined (elements_of value.old) more))) }
+    ensures err { OnErr result (value.new ≡ value.old) }
+{
+    if let Some(Value::Array(elements)) = value {
+        return elements.join(more);
+    }
+    let mut elements = copy_elements(alloc, value)?;
+    elements.join(more)?;
+    *value = Some(Value::Array(elements));
+    Ok(())
+}
+
+/// Takes an element away; a text value becomes element 0 of an array first.
+pub(crate) fn take_element(alloc: Global, value: &mut Option<Value>, at: u64)
+    requires { IsTrue (map.contains_key (elements_of value.old) at) }
+    ensures { value.new ≡ Some (of.Array (map.remove (elements_of value.old) at)) }
+{
+    match value {
+        Some(Value::Array(elements)) => elements.remove(at),
+        Some(Value::Text(_)) => *value = Some(Value::Array(Elements::new(alloc))),
+        None => {}
+    }
+}
