@@ -1,9 +1,11 @@
 //! The syntax trees of bash scripts: a type for each rule of the grammar that has a node.
 #![tactic(auto)]
 
+mod class;
 mod parts;
 mod tree;
 
+pub use class::Class;
 pub use parts::{
     AndOf, AndOrOf, AssignedOf, Bar, BinOp, Blank, BothOp, CaseOp, ClauseEnd, CoprocOf, DeclName,
     ElifOf, FName, FileOp, FuncDefOf, GroupPartOf, HereOp, HereTextOf, ItemEnd, ItemOf, JoinedOf,
