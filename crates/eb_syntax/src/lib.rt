@@ -1,9 +1,13 @@
 //! The syntax trees of bash scripts: a type for each rule of the grammar that has a node.
 #![tactic(auto)]
 
+mod funcs;
 mod parts;
 mod tree;
 
+#[doc(hidden)]
+pub use funcs::{FuncName, FuncTable};
+pub use funcs::Funcs;
 pub use parts::{
     AndOf, AndOrOf, AssignedOf, Bar, BinOp, Blank, BothOp, CaseOp, ClauseEnd, CoprocOf, DeclName,
     ElifOf, FName, FileOp, FuncDefOf, GroupPartOf, HereOp, HereTextOf, ItemEnd, ItemOf, JoinedOf,
