@@ -126,10 +126,6 @@ impl Model for FuncTable {
 }
 
 impl FuncTable {
-    ghost use Rattle.std.specs.Prelude.{◌≡◌, [], is_some, IfOk, OnOk, OnErr};
-    ghost use Rattle.std.specs.Option.{option_copied};
-    ghost use Rattle.eb_syntax.specs.Funcs.{body_of, with_body, without, HasDistinctNames};
-
     fn new(alloc: Global) -> FuncTable
         ensures { result ≡ [] }
     {
@@ -192,10 +188,6 @@ impl Model for Funcs {
 }
 
 impl Funcs {
-    ghost use Rattle.std.specs.Prelude.{◌≡◌, ◌≢◌, [], ◌∷◌, ◌++◌, is_some, IfOk, OnOk, OnErr};
-    ghost use Rattle.std.specs.Option.{option_copied};
-    ghost use Rattle.eb_syntax.specs.Funcs.{body_of, with_body, without, no_tables, now_present, once_open, HasDistinctNames};
-
     /// No functions, and no open subshell. Takes no memory.
     pub fn new(alloc: Global) -> Funcs
         ensures { result ≡ no_tables }

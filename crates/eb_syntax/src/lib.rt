@@ -3,11 +3,13 @@
 
 mod funcs;
 mod parts;
+#[cfg(test)]
+mod tests;
 mod tree;
 
+pub use funcs::Funcs;
 #[doc(hidden)]
 pub use funcs::{FuncName, FuncTable};
-pub use funcs::Funcs;
 pub use parts::{
     AndOf, AndOrOf, AssignedOf, Bar, BinOp, Blank, BothOp, CaseOp, ClauseEnd, CoprocOf, DeclName,
     ElifOf, FName, FileOp, FuncDefOf, GroupPartOf, HereOp, HereTextOf, ItemEnd, ItemOf, JoinedOf,
