@@ -35,17 +35,35 @@ fn nested_word(alloc: Global, depth: usize) -> Result<Word, Memory> {
     })
 }
 
+fn param_of(piece: &Piece) -> Option<&Param> {
+    match piece {
+        Piece::Dollar(dollar) => match dollar {
+            Dollar::Param(param) => Some(param.get()),
+            _ => None,
+        },
+        _ => None,
+    }
+}
+
+fn op_of(param: &Param) -> Option<&Op> {
+    match param {
+        Param::Value(_, op) => op.as_ref(),
+        _ => None,
+    }
+}
+
+fn first_of(op: &Op) -> Option<&PW> {
+    match op {
+        Op::Value(_, words) => words.get(0),
+        _ => None,
+    }
+}
+
 fn inside_of(piece: &Piece) -> Option<&Piece> {
-    let Piece::Dollar(Dollar::Param(param)) = piece else {
-        return None;
-    };
-    let Param::Value(_, Some(Op::Value(ValueOp::DefaultOfEmpty, words))) = param.get() else {
-        return None;
-    };
-    let Some(PW::Piece(inner)) = words.get(0) else {
-        return None;
-    };
-    Some(inner)
+    match first_of(op_of(param_of(piece)?)?)? {
+        PW::Piece(inner) => Some(inner),
+        _ => None,
+    }
 }
 
 // How many nestings stand round the innermost piece, no more than the limit.
