@@ -14,3 +14,4 @@ pub mod Compounds
 pub mod Fill
 pub mod Commands
 pub mod Grammar
+pub mod Funcs

@@ -2,10 +2,16 @@
 #![tactic(auto)]
 
 mod class;
+mod funcs;
 mod parts;
+#[cfg(test)]
+mod tests;
 mod tree;
 
 pub use class::Class;
+pub use funcs::Funcs;
+#[doc(hidden)]
+pub use funcs::{FuncName, FuncTable};
 pub use parts::{
     AndOf, AndOrOf, AssignedOf, Bar, BinOp, Blank, BothOp, CaseOp, ClauseEnd, CoprocOf, DeclName,
     ElifOf, FName, FileOp, FuncDefOf, GroupPartOf, HereOp, HereTextOf, ItemEnd, ItemOf, JoinedOf,

@@ -3,5 +3,7 @@
 #![tactic(auto)]
 
 mod shared;
+#[cfg(test)]
+mod tests;
 
 pub use shared::Shared;

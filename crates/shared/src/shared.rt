@@ -51,3 +51,11 @@ impl<T: Drop> Shared<T> {
         })
     }
 }
+
+impl<T: Drop> Clone for Shared<T> {
+    ghost is_clone = { λ shared another. another ≡ shared };
+
+    fn clone(&self) -> Result<Shared<T>, AllocError> {
+        self.share()
+    }
+}
