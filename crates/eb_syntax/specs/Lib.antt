@@ -15,3 +15,5 @@ pub mod Fill
 pub mod Commands
 pub mod Grammar
 pub mod Funcs
+pub mod Laws
+pub mod Parsed
