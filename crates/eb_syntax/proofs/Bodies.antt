@@ -1,5 +1,5 @@
 -- Here-documents: a newline answers each mark, a list of commands owns its marks, and a redirection holds its body.
-use Rattle.std.proofs.Common.{◌≡◌, ℕ, suc, Bool, true, false, List, [], ◌∷◌, ◌++◌, map, length, take, drop, Option, Some, None, Result, Ok, Err, ap, sym, ◌∙◌, subst, refl, append_assoc, append-nil, if◌then◌else◌}
+use Rattle.std.proofs.Common.{◌≡◌, ℕ, Bool, true, false, List, [], ◌∷◌, ◌++◌, map, length, Option, Ok, Err, ap, sym, ◌∙◌, subst, refl, append_assoc, append-nil, if◌then◌else◌}
 use Rattle.std.proofs.lemmas.List.{map-append}
 use Rattle.eb_syntax.specs.declared.parts.HereTextOf.TheVariants as text_
 use Rattle.eb_bytes.specs.Text.{Text}
@@ -13,9 +13,9 @@ use Rattle.eb_syntax.specs.declared.tree.Word.{Word}
 use Rattle.eb_syntax.specs.Tree.{HereText, Item}
 use Rattle.eb_syntax.specs.Classes.{is_in}
 use Rattle.eb_syntax.specs.declared.class.Class.TheVariants as class
-use Rattle.eb_syntax.specs.Peg.{HereMark, Spot, Stop, No, Deep, Rule, Outcome, ◌>>=◌, ◌>>◌, ◌</>◌, pure, no, either, and_then, not_at, gather, word_of, sees, taken, run_in, end, ends, here, within, whole, many, start_at}
+use Rattle.eb_syntax.specs.Peg.{HereMark, Spot, No, Rule, Outcome, ◌>>=◌, pure, no, and_then, word_of, sees, taken, run_in, end, ends, here, within, whole, many, start_at}
 use Rattle.eb_syntax.specs.Rules.{Rules}
-use Rattle.eb_syntax.specs.HereDocuments.{same_text, without_tabs, here_line, last_line, body_line, here_text, here_piece, body_text, keep, here_body, answered, here_bodies, newline}
+use Rattle.eb_syntax.specs.HereDocuments.{same_text, without_tabs, here_line, last_line, body_line, here_text, here_piece, body_text, keep, here_body, here_bodies, newline}
 use Rattle.eb_syntax.specs.Commands.{items_of, close, own}
 use Rattle.eb_syntax.specs.Fill.{body_of, filled_item, filled_redir}
 use Rattle.eb_syntax.specs.Laws.{mark_of, place_of, Owned}
@@ -108,9 +108,11 @@ owned_at p s s' node (Ok x) e h = owned_with x.1.waiting refl
         node_or : Items → Outcome Items → Items
         node_or other (Ok y) = y.0
         node_or other (Err _) = other
+
         end_or : Spot → Outcome Items → Spot
         end_or other (Ok y) = y.1
         end_or other (Err _) = other
+
         shown : x.1.waiting ≡ [] → pure (items_of (map (filled_item x.1.bodies) x.0)) (record (x.1) { waiting = s.waiting; bodies = s.bodies }) ≡ pure node s'
         shown n = subst (λ w. (if ends w then pure (items_of (map (filled_item x.1.bodies) x.0)) (record (x.1) { waiting = s.waiting; bodies = s.bodies }) else Err No) ≡ pure node s') n h
     owned_with (m ∷ ms) some = absurd (refused some)

@@ -1,6 +1,6 @@
 -- What the operators of the notation keep: a relation between the place where a rule begins and the place where it ends.
-use Rattle.std.proofs.Common.{◌≡◌, ℕ, zero, suc, Bool, true, false, List, [], ◌∷◌, ◌++◌, length, Option, Some, None, Result, Ok, Err, ap, sym, subst, refl}
-use Rattle.eb_syntax.specs.Peg.{Spot, Stop, No, Deep, Rule, Outcome, ◌>>=◌, ◌>>◌, ◌<$>◌, ◌</>◌, pure, either, and_then, not_at, at, maybe, stands, gather, gather_from, many, some, followed_by, nest, here}
+use Rattle.std.proofs.Common.{◌≡◌, ℕ, zero, suc, List, [], ◌++◌, length, Ok, Err, ap, subst, refl}
+use Rattle.eb_syntax.specs.Peg.{Spot, Stop, No, Deep, Rule, Outcome, ◌>>=◌, ◌</>◌, pure, either, and_then, not_at, gather, gather_from}
 
 never : {A : Type 0} (e : Stop) (v : A × Spot) → Err e ≡ Ok v → ⊥
 never e v h = cc

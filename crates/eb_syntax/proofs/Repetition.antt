@@ -1,6 +1,6 @@
 -- Laws of the notation: a shared beginning is read once, and a repetition needs no bound.
-use Rattle.std.proofs.Common.{◌≡◌, ℕ, zero, suc, ◌+◌, ◌<◌, ◌≤◌, List, [], ◌∷◌, ◌++◌, length, Result, Ok, Err, ap, sym, ◌∙◌, refl, arith}
-use Rattle.eb_syntax.specs.Peg.{Spot, Stop, No, Deep, Rule, Outcome, ◌>>=◌, ◌</>◌, pure, either, and_then, gather_from}
+use Rattle.std.proofs.Common.{◌≡◌, ℕ, zero, suc, ◌<◌, ◌≤◌, List, ◌++◌, length, Ok, Err, sym, ◌∙◌, refl, arith}
+use Rattle.eb_syntax.specs.Peg.{Spot, No, Deep, Rule, Outcome, ◌>>=◌, ◌</>◌, pure, either, gather_from}
 use Rattle.eb_syntax.specs.Laws.{TakesBytes}
 
 module _ {A B : Type 0} (p : Rule A) (f g : A → Rule B) (s : Spot) where

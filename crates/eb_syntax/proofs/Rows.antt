@@ -1,5 +1,5 @@
 -- Small texts with the nodes that they are read as.
-use Rattle.std.proofs.Common.{◌≡◌, ℕ, zero, suc, Bool, true, false, List, [], ◌∷◌, ◌++◌, Option, Result, Ok, Err, Some, None, refl, codes, map}
+use Rattle.std.proofs.Common.{◌≡◌, ℕ, zero, suc, false, List, [], ◌∷◌, ◌++◌, Ok, Err, Some, None, refl, codes, map}
 use Prim.Native.String.{String}
 use Rattle.eb_bytes.specs.Text.{Text}
 use Rattle.eb_syntax.specs.declared.parts.AssignedOf.TheVariants as assigned
@@ -29,7 +29,6 @@ use Rattle.eb_syntax.specs.declared.tree.Piece.TheVariants as p
 use Rattle.eb_syntax.specs.declared.tree.Prefix.TheVariants as prefix
 use Rattle.eb_syntax.specs.declared.tree.Primary.TheVariants as prim
 use Rattle.eb_syntax.specs.declared.tree.QPiece.TheVariants as q
-use Rattle.eb_syntax.specs.declared.tree.Redir.{Redir}
 use Rattle.eb_syntax.specs.declared.tree.Redir.TheVariants as redir
 use Rattle.eb_syntax.specs.declared.tree.Simple.{roll-Simple}
 use Rattle.eb_syntax.specs.declared.tree.Tail.{roll-Tail}
@@ -37,12 +36,12 @@ use Rattle.eb_syntax.specs.declared.tree.TailPart.{TailPart}
 use Rattle.eb_syntax.specs.declared.tree.TailPart.TheVariants as part
 use Rattle.eb_syntax.specs.declared.tree.Word.{Word, roll-Word}
 use Rattle.eb_syntax.specs.Tree.{HereText, Item}
-use Rattle.eb_syntax.specs.Peg.{Spot, Stop, No, Deep, Outcome, start_at, gather}
+use Rattle.eb_syntax.specs.Peg.{Spot, No, Deep, Outcome, start_at, gather}
 use Rattle.eb_syntax.specs.declared.tree.HereBody.{HereBody}
 use Rattle.eb_syntax.specs.Commands.{turn}
 use Rattle.eb_syntax.specs.Fill.{filled_item}
 use Rattle.eb_syntax.specs.Words.{word}
-use Rattle.eb_syntax.specs.Grammar.{inside, script, Reading, Node, Refused, TooDeep}
+use Rattle.eb_syntax.specs.Grammar.{inside, script, Refused, TooDeep}
 use Rattle.eb_syntax.proofs.Opened.{grammar}
 
 -- ---- one Word
@@ -97,22 +96,31 @@ changed called how = param.Value (ref.Name (codes called) None) (Some how)
 
 -- the default of a default in double quotes is inside them: its quotes are bytes
 inner_default_row : word (inside 200) (start "\"${x-${y-'q'}}\" ")
-    ≡ Ok (word_of (p.Double false (q.Dollar (d.Param (changed "x" (op.Value value.Default (pw.Quoted (q.Dollar (d.Param (changed "y" (op.Value value.Default
-          (pw.Quoted (q.Byte 39) ∷ pw.Quoted (q.Byte 113) ∷ pw.Quoted (q.Byte 39) ∷ []))))) ∷ [])))) ∷ []) ∷ []), behind " " 15)
+    ≡ Ok (
+      word_of (p.Double false (q.Dollar (d.Param (changed "x" (op.Value value.Default (pw.Quoted (q.Dollar (d.Param (changed "y" (op.Value value.Default
+          (pw.Quoted (q.Byte 39) ∷ pw.Quoted (q.Byte 113) ∷ pw.Quoted (q.Byte 39) ∷ []))))) ∷ [])))) ∷ []) ∷ []),
+      behind " " 15,
+    )
 unfolding grammar
 inner_default_row = refl
 
 -- so is one in an arithmetic expansion
 inner_arith_row : word (inside 200) (start "\"$(( ${y-'2'} ))\" ")
-    ≡ Ok (word_of (p.Double false (q.Dollar (d.Arith (ap.Byte 32 ∷ ap.Dollar (d.Param (changed "y" (op.Value value.Default
-          (pw.Quoted (q.Byte 39) ∷ pw.Quoted (q.Byte 50) ∷ pw.Quoted (q.Byte 39) ∷ [])))) ∷ ap.Byte 32 ∷ [])) ∷ []) ∷ []), behind " " 17)
+    ≡ Ok (
+      word_of (p.Double false (q.Dollar (d.Arith (ap.Byte 32 ∷ ap.Dollar (d.Param (changed "y" (op.Value value.Default
+          (pw.Quoted (q.Byte 39) ∷ pw.Quoted (q.Byte 50) ∷ pw.Quoted (q.Byte 39) ∷ [])))) ∷ ap.Byte 32 ∷ [])) ∷ []) ∷ []),
+      behind " " 17,
+    )
 unfolding grammar
 inner_arith_row = refl
 
 -- but what a replacement has begins anew, outside
 replacement_row : word (inside 200) (start "\"${x/a/${y-'q'}}\" ")
-    ≡ Ok (word_of (p.Double false (q.Dollar (d.Param (changed "x" (op.Replace replace.First (pw.Piece (plain_byte 97) ∷ []) (Some (pw.Piece (p.Dollar (d.Param
-          (changed "y" (op.Value value.Default (pw.Piece (p.Single (codes "q")) ∷ []))))) ∷ []))))) ∷ []) ∷ []), behind " " 17)
+    ≡ Ok (
+      word_of (p.Double false (q.Dollar (d.Param (changed "x" (op.Replace replace.First (pw.Piece (plain_byte 97) ∷ []) (Some (pw.Piece (p.Dollar (d.Param
+          (changed "y" (op.Value value.Default (pw.Piece (p.Single (codes "q")) ∷ []))))) ∷ []))))) ∷ []) ∷ []),
+      behind " " 17,
+    )
 unfolding grammar
 replacement_row = refl
 
@@ -155,8 +163,10 @@ filled bodies items = roll-Items (record { items = map (filled_item bodies) item
 
 -- a mark's number is the place of its word
 here_document_row : items_and_bodies "cat <<E\n$x\nE\n"
-    ≡ (item_of (simple (text_word "cat") (part.Redir (redir.Here [] here.Plain (text_word "E") 6 None) ∷ [])) end.Ahead ∷ [],
-        body_of 6 (text.Parts (q.Dollar (d.Name (codes "x")) ∷ q.Byte 10 ∷ [])) ∷ [])
+    ≡ (
+      item_of (simple (text_word "cat") (part.Redir (redir.Here [] here.Plain (text_word "E") 6 None) ∷ [])) end.Ahead ∷ [],
+      body_of 6 (text.Parts (q.Dollar (d.Name (codes "x")) ∷ q.Byte 10 ∷ [])) ∷ [],
+    )
 unfolding grammar
 here_document_row = refl
 
@@ -168,49 +178,72 @@ quoted_row = refl
 
 -- `<<-` takes the leading tabs away
 tabs_row : items_and_bodies "cat 3<<-E\n\t\ta\tb\n\tE\n"
-    ≡ (item_of (simple (text_word "cat") (part.Redir (redir.Here (codes "3") here.StripTabs (text_word "E") 8 None) ∷ [])) end.Ahead ∷ [],
-        body_of 8 (text.Parts (q.Byte 97 ∷ q.Byte 9 ∷ q.Byte 98 ∷ q.Byte 10 ∷ [])) ∷ [])
+    ≡ (
+      item_of (simple (text_word "cat") (part.Redir (redir.Here (codes "3") here.StripTabs (text_word "E") 8 None) ∷ [])) end.Ahead ∷ [],
+      body_of 8 (text.Parts (q.Byte 97 ∷ q.Byte 9 ∷ q.Byte 98 ∷ q.Byte 10 ∷ [])) ∷ [],
+    )
 unfolding grammar
 tabs_row = refl
 
 -- a backslash before a double quote stays, before a dollar it quotes
 backslash_row : items_and_bodies "cat <<E\n\\\"\\$\nE\n"
-    ≡ (item_of (simple (text_word "cat") (part.Redir (redir.Here [] here.Plain (text_word "E") 6 None) ∷ [])) end.Ahead ∷ [],
-        body_of 6 (text.Parts (q.Byte 92 ∷ q.Byte 34 ∷ q.Escaped 36 ∷ q.Byte 10 ∷ [])) ∷ [])
+    ≡ (
+      item_of (simple (text_word "cat") (part.Redir (redir.Here [] here.Plain (text_word "E") 6 None) ∷ [])) end.Ahead ∷ [],
+      body_of 6 (text.Parts (q.Byte 92 ∷ q.Byte 34 ∷ q.Escaped 36 ∷ q.Byte 10 ∷ [])) ∷ [],
+    )
 unfolding grammar
 backslash_row = refl
 
 -- several bodies at one newline, in the order of their marks
 two_bodies_row : items_and_bodies "a <<A <<B; b\n1\nA\n2\nB\n"
-    ≡ (item_of (simple (text_word "a") (part.Redir (redir.Here [] here.Plain (text_word "A") 4 None) ∷ part.Redir (redir.Here [] here.Plain (text_word "B") 8 None) ∷ [])) end.Semicolon
+    ≡ (
+      item_of (simple (text_word "a") (part.Redir (redir.Here [] here.Plain (text_word "A") 4 None) ∷ part.Redir (redir.Here [] here.Plain (text_word "B") 8 None) ∷ [])) end.Semicolon
           ∷ item_of (simple (text_word "b") []) end.Ahead ∷ [],
-        body_of 4 (text.Parts (q.Byte 49 ∷ q.Byte 10 ∷ [])) ∷ body_of 8 (text.Parts (q.Byte 50 ∷ q.Byte 10 ∷ [])) ∷ [])
+      body_of 4 (text.Parts (q.Byte 49 ∷ q.Byte 10 ∷ [])) ∷ body_of 8 (text.Parts (q.Byte 50 ∷ q.Byte 10 ∷ [])) ∷ [],
+    )
 unfolding grammar
 two_bodies_row = refl
 
 -- a list of commands inside another has marks of its own
 own_marks_row : items_and_bodies "x=$(a <<A\n1\nA\n) <<B\n2\nB\n"
-    ≡ (item_of (c.Simple (roll-Simple (record {
-            before = prefix.Assign (roll-Assign (record { name = codes "x"; sub = None; append = false; value = assigned.Text (word_of (p.Dollar (d.Command
-                (filled (body_of 8 (text.Parts (q.Byte 49 ∷ q.Byte 10 ∷ [])) ∷ []) (item_of (simple (text_word "a") (part.Redir (redir.Here [] here.Plain (text_word "A") 8 None) ∷ [])) end.Ahead ∷ []))) ∷ [])) }))
-                ∷ prefix.Redir (redir.Here [] here.Plain (text_word "B") 18 None) ∷ [];
-            tail = None }))) end.Ahead ∷ [],
-        body_of 18 (text.Parts (q.Byte 50 ∷ q.Byte 10 ∷ [])) ∷ [])
+    ≡ (
+      item_of (c.Simple (roll-Simple (record {
+        before = prefix.Assign (roll-Assign (record {
+          name = codes "x";
+          sub = None;
+          append = false;
+          value = assigned.Text (word_of (p.Dollar (d.Command
+              (filled (body_of 8 (text.Parts (q.Byte 49 ∷ q.Byte 10 ∷ [])) ∷ []) (item_of (simple (text_word "a") (part.Redir (redir.Here [] here.Plain (text_word "A") 8 None) ∷ [])) end.Ahead ∷ []))) ∷ []));
+        }))
+            ∷ prefix.Redir (redir.Here [] here.Plain (text_word "B") 18 None) ∷ [];
+        tail = None;
+      }))) end.Ahead ∷ [],
+      body_of 18 (text.Parts (q.Byte 50 ∷ q.Byte 10 ∷ [])) ∷ [],
+    )
 unfolding grammar
 own_marks_row = refl
 
 -- a function's redirections are its command's
 function_row : items_and_bodies "f() { :; } <<E\nb\nE\n"
-    ≡ (item_of (c.FuncDef (record { keyword = false; name = codes "f"; body = c.Compound (compound.Group (filled [] (item_of (simple (text_word ":") []) end.Semicolon ∷ [])))
-            (redir.Here [] here.Plain (text_word "E") 13 None ∷ []) })) end.Ahead ∷ [],
-        body_of 13 (text.Parts (q.Byte 98 ∷ q.Byte 10 ∷ [])) ∷ [])
+    ≡ (
+      item_of (c.FuncDef (record {
+        keyword = false;
+        name = codes "f";
+        body = c.Compound (compound.Group (filled [] (item_of (simple (text_word ":") []) end.Semicolon ∷ [])))
+            (redir.Here [] here.Plain (text_word "E") 13 None ∷ []);
+      })) end.Ahead ∷ [],
+      body_of 13 (text.Parts (q.Byte 98 ∷ q.Byte 10 ∷ [])) ∷ [],
+    )
 unfolding grammar
 function_row = refl
 
 -- between backquotes a backslash goes before a backquote, and what is left is a script
 backquotes_row : items_and_bodies "`a \\`b\\``"
-    ≡ (item_of (simple (word_of (p.Back (filled [] (item_of (simple (text_word "a") (part.Word (word_of (p.Back (filled [] (item_of (simple (text_word "b") []) end.Ahead ∷ [])) ∷ [])) ∷ []))
-          end.Ahead ∷ [])) ∷ [])) []) end.Ahead ∷ [], [])
+    ≡ (
+      item_of (simple (word_of (p.Back (filled [] (item_of (simple (text_word "a") (part.Word (word_of (p.Back (filled [] (item_of (simple (text_word "b") []) end.Ahead ∷ [])) ∷ [])) ∷ []))
+          end.Ahead ∷ [])) ∷ [])) []) end.Ahead ∷ [],
+      [],
+    )
 unfolding grammar
 backquotes_row = refl
 

@@ -1,8 +1,8 @@
 -- Each form that opens a nesting: with 200 open at once it is read, with 201 it nests too deep.
-use Rattle.std.proofs.Common.{◌≡◌, ℕ, zero, suc, Bool, true, false, ◌&&◌, ◌==◌, List, [], ◌∷◌, ◌++◌, refl, codes}
+use Rattle.std.proofs.Common.{◌≡◌, ℕ, zero, suc, Bool, true, false, ◌&&◌, ◌==◌, [], ◌++◌, refl, codes}
 use Prim.Native.String.{String}
 use Rattle.eb_bytes.specs.Text.{Text}
-use Rattle.eb_syntax.specs.Grammar.{Reading, Node, Refused, TooDeep, is_read, script}
+use Rattle.eb_syntax.specs.Grammar.{Reading, Refused, TooDeep, is_read, script}
 use Rattle.eb_syntax.proofs.Opened.{grammar}
 
 abbrev times : ℕ → Text → Text
@@ -174,27 +174,27 @@ a_coprocess_row = refl
 
 -- where 200 are open, the first literal or keyword of a form is enough, whatever follows
 first_literal_row : (
-      is_too_deep_at 1 (script (nested "a " "$(" 200 "{ a" ")" "")) &&
-      is_too_deep_at 1 (script (nested "a " "$(" 200 "a ?(" ")" "")) &&
-      is_too_deep_at 1 (script (nested "a " "$(" 200 "a \"b" ")" "")) &&
-      is_too_deep_at 1 (script (nested "a " "$(" 200 "a ${" ")" "")) &&
-      is_too_deep_at 2 (script (nested "a " "$(" 200 "\n((" ")" "")) &&
-      is_too_deep_at 1 (script (nested "a " "$(" 199 "[[ !x ]]" ")" "")) &&
-      is_too_deep_at 1 (script (nested "a " "$(" 200 "x[" ")" "")) &&
-      is_too_deep_at 1 (script (nested "a " "$(" 200 "a <(" ")" "")) &&
-      is_too_deep_at 1 (script (nested "a " "$(" 200 "a `" ")" "")) &&
-      is_too_deep_at 3 (script (nested "a " "$(" 200 "a\n\nif" ")" "")) &&
-      true) ≡ true
+    is_too_deep_at 1 (script (nested "a " "$(" 200 "{ a" ")" "")) &&
+    is_too_deep_at 1 (script (nested "a " "$(" 200 "a ?(" ")" "")) &&
+    is_too_deep_at 1 (script (nested "a " "$(" 200 "a \"b" ")" "")) &&
+    is_too_deep_at 1 (script (nested "a " "$(" 200 "a ${" ")" "")) &&
+    is_too_deep_at 2 (script (nested "a " "$(" 200 "\n((" ")" "")) &&
+    is_too_deep_at 1 (script (nested "a " "$(" 199 "[[ !x ]]" ")" "")) &&
+    is_too_deep_at 1 (script (nested "a " "$(" 200 "x[" ")" "")) &&
+    is_too_deep_at 1 (script (nested "a " "$(" 200 "a <(" ")" "")) &&
+    is_too_deep_at 1 (script (nested "a " "$(" 200 "a `" ")" "")) &&
+    is_too_deep_at 3 (script (nested "a " "$(" 200 "a\n\nif" ")" "")) &&
+    true) ≡ true
 unfolding grammar
 first_literal_row = refl
 
 -- and elsewhere no nesting is counted
 no_literal_row : (
-      is_read (script (nested "a " "$(" 200 "{a" ")" "")) &&
-      is_read (script (nested "a " "$(" 200 "?a *b" ")" "")) &&
-      is_read (script (nested "a " "$(" 198 "[[ !x ]]" ")" "")) &&
-      is_read (script (nested "a " "$(" 200 "iff" ")" "")) &&
-      true) ≡ true
+    is_read (script (nested "a " "$(" 200 "{a" ")" "")) &&
+    is_read (script (nested "a " "$(" 200 "?a *b" ")" "")) &&
+    is_read (script (nested "a " "$(" 198 "[[ !x ]]" ")" "")) &&
+    is_read (script (nested "a " "$(" 200 "iff" ")" "")) &&
+    true) ≡ true
 unfolding grammar
 no_literal_row = refl
 

@@ -1,5 +1,5 @@
 -- How far an operator of the notation reads: a reading leaves at most the bytes that stood there, or fewer.
-use Rattle.std.proofs.Common.{◌≡◌, ℕ, zero, suc, ◌+◌, ◌-◌, ◌<◌, ◌≤◌, Bool, true, false, List, [], ◌∷◌, ◌++◌, length, take, drop, Option, Some, None, Result, Ok, Err, ap, sym, ◌∙◌, subst, refl, arith, codes, map, if◌then◌else◌}
+use Rattle.std.proofs.Common.{◌≡◌, ℕ, zero, suc, ◌-◌, ◌<◌, ◌≤◌, Bool, true, false, List, [], ◌∷◌, ◌++◌, length, take, drop, Option, Some, None, Ok, Err, ap, sym, refl, arith, map, if◌then◌else◌}
 use Rattle.std.specs.List.{prefix_len, starts_with}
 use Rattle.std.specs.Prelude.{slice_get, nat_eq}
 use Rattle.std.proofs.lemmas.List.{length-drop}
@@ -8,8 +8,8 @@ use Rattle.eb_syntax.specs.Tree.{Item}
 use Rattle.eb_syntax.specs.declared.tree.Items.{Items}
 use Rattle.eb_syntax.specs.HereDocuments.{mark, keep, answered}
 use Rattle.eb_syntax.specs.declared.tree.HereBody.{HereBody}
-use Rattle.eb_syntax.specs.Peg.{HereMark, no, Spot, Stop, No, Deep, Rule, Outcome, ◌>>=◌, ◌>>◌, ◌<$>◌, ◌</>◌, pure, either, and_then, not_at, at, maybe, stands, gather, gather_from, many, some, single, followed_by, with_text, nest, here, word_of, sees, first, byte_of, byte_in, run_in, end, ends, taken, within, whole, start_at}
-use Rattle.eb_syntax.specs.Rules.{Rules, Unquoted}
+use Rattle.eb_syntax.specs.Peg.{HereMark, no, Spot, Stop, No, Deep, Rule, Outcome, ◌>>=◌, ◌<$>◌, ◌</>◌, pure, either, and_then, not_at, at, maybe, stands, gather, gather_from, many, some, single, followed_by, with_text, nest, here, word_of, sees, first, byte_of, byte_in, run_in, end, ends, taken, within, whole, start_at}
+use Rattle.eb_syntax.specs.Rules.{Rules}
 use Rattle.eb_syntax.specs.Commands.{own, close, items_of}
 use Rattle.eb_syntax.specs.Fill.{filled_item}
 use Rattle.eb_syntax.specs.Laws.{Keeps, Takes}

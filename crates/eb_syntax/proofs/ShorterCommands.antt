@@ -1,5 +1,5 @@
 -- Each rule of a command takes a byte where it has a reading, and a list of commands leaves at most what stood there.
-use Rattle.std.proofs.Common.{ℕ, zero, suc, Bool, true, false, List, [], ◌∷◌, ◌++◌, Option, Some, None, codes, if◌then◌else◌}
+use Rattle.std.proofs.Common.{ℕ, zero, suc, Bool, true, false, List, [], ◌∷◌, Option, None}
 use Rattle.eb_bytes.specs.Text.{Text}
 use Rattle.eb_syntax.specs.declared.tree.Redir.TheVariants as redir
 use Rattle.eb_syntax.specs.Names as n
@@ -10,10 +10,10 @@ use Rattle.eb_syntax.specs.Conditions as c
 use Rattle.eb_syntax.specs.Compounds as x
 use Rattle.eb_syntax.specs.Commands as m
 use Rattle.eb_syntax.specs.Grammar.{inside, rules_in}
-use Rattle.eb_syntax.specs.Peg.{HereMark, Spot, ◌>>=◌, ◌>>◌, pure, no, many, lit}
+use Rattle.eb_syntax.specs.Peg.{HereMark, ◌>>◌, many, lit}
 use Rattle.eb_syntax.specs.Rules.{Rules}
 use Rattle.eb_syntax.specs.Laws.{Keeps, Takes}
-use Rattle.eb_syntax.proofs.Shorter.{weak, same_left, pure-k, bind-k, bind-t, late-t, map-t, map-k, or-k, or-t, maybe-k, stands-k, not-k, at-k, gather-k, many-k, some-t, followed-t, with-t, word-t, byte-t, run-k, end-k, within-k, here-k, own-k, own-t, nest-t, never, test-k, mark-k, keep-k, answered-k, Shrinks, Below}
+use Rattle.eb_syntax.proofs.Shorter.{weak, pure-k, bind-k, bind-t, late-t, map-t, map-k, or-k, or-t, maybe-k, stands-k, not-k, at-k, gather-k, many-k, some-t, followed-t, with-t, word-t, byte-t, run-k, end-k, within-k, here-k, own-k, own-t, nest-t, test-k, mark-k, keep-k, answered-k, Shrinks, Below}
 use Rattle.eb_syntax.specs.Laws.{Keeps, Takes}
 use Rattle.eb_syntax.proofs.ShorterWords.{blank-t, blanks-k, some_blanks-t, comment-t, keyword-t, name-t, function_name-t, subscript-t, backquoted-t, dollar-t, double_quoted-t, continuation-t, escaped-t, single_quoted-t, ansi_quoted-t, quoted_piece-t, piece-t, word-takes, group_start-t, arith-k, arith_part-k}
 
@@ -160,10 +160,10 @@ module _ (o : Option Rules) (b : Below o) where
   unfolding c.prim c.unary_test c.unary_op c.word_test c.matches c.compared
   prim-t = or-t (map-t _ (nest-t o _ _ b condition_group-t))
       (or-t (bind-t (bind-t (word-t _ _) (λ _. bind-k (weak (byte-t _)) (λ which. bind-k (at-k _) (λ _. pure-k)))) (λ which. bind-k (weak some_blanks-t) (λ _. bind-k (not-k _) (λ _.
-          bind-k (weak condition_word-t) (λ operand. pure-k)))))
+      bind-k (weak condition_word-t) (λ operand. pure-k)))))
       (bind-t condition_word-t (λ left. bind-k (maybe-k (or-k
-          (bind-k (weak some_blanks-t) (λ _. bind-k (weak (word-t _ _)) (λ _. bind-k (weak some_blanks-t) (λ _. bind-k (weak regex-t) (λ found. pure-k)))))
-          (bind-k (weak some_blanks-t) (λ _. bind-k binary_op-k (λ which. bind-k (weak some_blanks-t) (λ _. bind-k (weak condition_word-t) (λ right. pure-k))))))) (λ behind. pure-k))))
+      (bind-k (weak some_blanks-t) (λ _. bind-k (weak (word-t _ _)) (λ _. bind-k (weak some_blanks-t) (λ _. bind-k (weak regex-t) (λ found. pure-k)))))
+      (bind-k (weak some_blanks-t) (λ _. bind-k binary_op-k (λ which. bind-k (weak some_blanks-t) (λ _. bind-k (weak condition_word-t) (λ right. pure-k))))))) (λ behind. pure-k))))
 
   not-takes : Takes (c.not o)
   unfolding c.not
@@ -207,16 +207,16 @@ module _ (i : Rules) (k : Shrinks i) where
       (or-t (bind-t (word-t _ _) (λ _. bind-k (k.arith false) (λ text. bind-k (weak (word-t _ _)) (λ _. pure-k))))
       (or-t (bind-t (word-t _ _) (λ _. bind-k (not-k _) (λ _. bind-k (weak k.body) (λ body. bind-k (weak (word-t _ _)) (λ _. pure-k)))))
       (or-t (bind-t (keyword-t _ _) (λ _. bind-k (weak k.body) (λ test. bind-k (weak (keyword-t _ _)) (λ _. bind-k (weak k.body) (λ body. bind-k (many-k elif-k) (λ elifs.
-          bind-k (maybe-k (bind-k (weak (keyword-t _ _)) (λ _. weak k.body))) (λ other. bind-k (weak (keyword-t _ _)) (λ _. pure-k))))))))
+      bind-k (maybe-k (bind-k (weak (keyword-t _ _)) (λ _. weak k.body))) (λ other. bind-k (weak (keyword-t _ _)) (λ _. pure-k))))))))
       (or-t (bind-t (keyword-t _ _) (λ _. bind-k (weak k.body) (λ test. bind-k do_done-k (λ body. pure-k))))
       (or-t (bind-t (keyword-t _ _) (λ _. bind-k (weak k.body) (λ test. bind-k do_done-k (λ body. pure-k))))
       (or-t (bind-t (keyword-t _ _) (λ _. bind-k blanks-k (λ _. bind-k (weak (word-t _ _)) (λ _. bind-k k.arith_part (λ first. bind-k (weak (word-t _ _)) (λ _. bind-k k.arith_part (λ test.
-          bind-k (weak (word-t _ _)) (λ _. bind-k k.arith_part (λ next. bind-k (weak (word-t _ _)) (λ _. bind-k blanks-k (λ _. bind-k (stands-k (weak (word-t _ _))) (λ _.
-          bind-k k.lines (λ _. bind-k do_done-k (λ body. pure-k))))))))))))))
+      bind-k (weak (word-t _ _)) (λ _. bind-k k.arith_part (λ next. bind-k (weak (word-t _ _)) (λ _. bind-k blanks-k (λ _. bind-k (stands-k (weak (word-t _ _))) (λ _.
+      bind-k k.lines (λ _. bind-k do_done-k (λ body. pure-k))))))))))))))
       (or-t (bind-t (keyword-t _ _) (λ _. bind-k loop_over-k (λ loop. pure-k)))
       (or-t (bind-t (keyword-t _ _) (λ _. bind-k loop_over-k (λ loop. pure-k)))
       (or-t (bind-t (keyword-t _ _) (λ _. bind-k blanks-k (λ _. bind-k (weak k.word) (λ word. bind-k k.lines (λ _. bind-k (weak (keyword-t _ _)) (λ _. bind-k k.lines (λ _.
-          bind-k (many-k clause-k) (λ clauses. bind-k (weak (keyword-t _ _)) (λ _. pure-k)))))))))
+      bind-k (many-k clause-k) (λ clauses. bind-k (weak (keyword-t _ _)) (λ _. pure-k)))))))))
       (bind-t (keyword-t _ _) (λ _. bind-k k.lines (λ _. bind-k (weak k.or) (λ condition. bind-k k.lines (λ _. bind-k (weak (keyword-t _ _)) (λ _. pure-k)))))))))))))))
 
 -- ---- what stands between commands

@@ -1,14 +1,13 @@
 -- Each rule of a word takes a byte where it has a reading.
-use Rattle.std.proofs.Common.{ℕ, Bool, true, false, List, [], ◌∷◌, Option, Some, None, codes}
+use Rattle.std.proofs.Common.{ℕ, Bool, true, false, ◌∷◌, Option}
 use Rattle.eb_bytes.specs.Text.{Text}
 use Rattle.eb_syntax.specs.Names as n
 use Rattle.eb_syntax.specs.Params as m
 use Rattle.eb_syntax.specs.Words as w
 use Rattle.eb_syntax.specs.ArithText as a
-use Rattle.eb_syntax.specs.Peg.{not_at}
 use Rattle.eb_syntax.specs.Rules.{Rules}
 use Rattle.eb_syntax.specs.Laws.{Keeps, Takes}
-use Rattle.eb_syntax.proofs.Shorter.{weak, pure-k, bind-k, bind-t, late-t, map-t, map-k, or-k, or-t, maybe-k, stands-k, not-k, at-k, gather-k, many-k, some-t, followed-t, word-t, byte-t, run-k, end-k, within-k, here-k, nest-t, Shrinks, Below}
+use Rattle.eb_syntax.proofs.Shorter.{weak, pure-k, bind-k, bind-t, late-t, map-t, map-k, or-k, or-t, maybe-k, stands-k, not-k, at-k, gather-k, many-k, some-t, word-t, byte-t, run-k, within-k, here-k, nest-t, Shrinks, Below}
 
 -- ---- names
 
@@ -140,7 +139,7 @@ module _ (r : Rules) (k : Shrinks r) where
   change-k quoted = or-k (bind-k value_op-k (λ which. bind-k (many-k (weak (value_piece-t quoted))) (λ text. pure-k)))
       (or-k (bind-k strip_op-k (λ which. bind-k (many-k (weak text_piece-t)) (λ text. pure-k)))
       (or-k (bind-k replace_op-k (λ which. bind-k (many-k (bind-k (not-k _) (λ _. weak text_piece-t))) (λ text.
-          bind-k (maybe-k (bind-k (weak (word-t _ _)) (λ _. many-k (weak text_piece-t)))) (λ other. pure-k))))
+      bind-k (maybe-k (bind-k (weak (word-t _ _)) (λ _. many-k (weak text_piece-t)))) (λ other. pure-k))))
       (or-k (bind-k case_op-k (λ which. bind-k (many-k (weak text_piece-t)) (λ text. pure-k)))
       (or-k (map-k _ (bind-k (weak (word-t _ _)) (λ _. weak (byte-t _))))
       (bind-k (slice_part-k quoted) (λ offset. bind-k (maybe-k (slice_part-k quoted)) (λ size. pure-k)))))))

@@ -1,5 +1,13 @@
 ghost use Rattle.eb_syntax.specs.Laws.{
-    BodyTakes, FillsBodies, ItemTakes, ItemsKeep, NeedsNoBound, NewlineAnswers, OwnsMarks, SharesBeginnings, WordsTake,
+  BodyTakes,
+  FillsBodies,
+  ItemTakes,
+  ItemsKeep,
+  NeedsNoBound,
+  NewlineAnswers,
+  OwnsMarks,
+  SharesBeginnings,
+  WordsTake,
 };
 
 /// A repetition does not depend on how many turns it may make, where these are as many as the bytes that are left.
