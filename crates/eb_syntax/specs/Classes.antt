@@ -1,0 +1,53 @@
+-- The classes of bytes. No class holds the byte 0.
+use Rattle.std.specs.Prelude.{ℕ, Bool, not, ◌||◌, ◌&&◌, ◌==◌, nat_le}
+use Rattle.eb_bytes.specs.Text.{Text}
+use Rattle.eb_syntax.specs.declared.class.Class.{Class}
+use Rattle.eb_syntax.specs.declared.class.Class.TheVariants.{Any, NotNewline, Meta, Digit, OctalDigit, HexDigit, Letter, NameStart, NamePart, Plain, FunctionName, Single, Ansi, Escaped, Double, Back, Unescaped, GroupMark, AfterDollar, Special, AllElements, SliceEnd, Slice, Arith, Bracket, LineEnd}
+use Rattle.eb_syntax.specs.Peg.{Rule, byte_in, run_in, ◌∈◌}
+
+abbrev pub is_digit : ℕ → Bool
+is_digit b = nat_le 48 b && nat_le b 57
+
+abbrev pub is_letter : ℕ → Bool
+is_letter b = (nat_le 65 b && nat_le b 90) || (nat_le 97 b && nat_le b 122)
+
+-- the byte is none of these, nor 0
+abbrev pub is_other : ℕ → Bool → Bool
+is_other b among = not (b == 0 || among)
+
+-- the byte is of the class
+abbrev pub is_in : Class → ℕ → Bool
+is_in Any b = not (b == 0)
+is_in NotNewline b = is_other b (b == 10)
+is_in Meta b = b ∈ " \t\n;&|()<>"
+is_in Digit b = is_digit b
+is_in OctalDigit b = nat_le 48 b && nat_le b 55
+is_in HexDigit b = is_digit b || (nat_le 65 b && nat_le b 70) || (nat_le 97 b && nat_le b 102)
+is_in Letter b = is_letter b
+is_in NameStart b = b == 95 || is_letter b
+is_in NamePart b = b == 95 || is_letter b || is_digit b
+is_in Plain b = is_other b (b ∈ " \t\n|&;()<>$`\"'\\")
+is_in FunctionName b = is_other b (b ∈ " \t\n|&;()<>$`\"'\\=")
+is_in Single b = is_other b (b ∈ "'")
+is_in Ansi b = is_other b (b ∈ "'\\")
+is_in Escaped b = b ∈ "$`\"\\"
+is_in Double b = is_other b (b ∈ "\"$`")
+is_in Back b = is_other b (b ∈ "`\\")
+is_in Unescaped b = b ∈ "$`\\"
+is_in GroupMark b = b ∈ "?*+@!"
+is_in AfterDollar b = b ∈ "({@*#?$!-_" || is_letter b || is_digit b
+is_in Special b = b ∈ "@*#?$!-"
+is_in AllElements b = b ∈ "@*"
+is_in SliceEnd b = b ∈ ":}"
+is_in Slice b = is_other b (b ∈ "$`\"\\")
+is_in Arith b = is_other b (b ∈ "()$`\\")
+is_in Bracket b = b ∈ "[]"
+is_in LineEnd b = b ∈ "\n#"
+
+-- one byte of the class
+abbrev pub byte : Class → Rule ℕ
+byte c = byte_in (is_in c)
+
+-- the class with `*`
+abbrev pub run : Class → Rule Text
+run c = run_in (is_in c)

@@ -1,0 +1,50 @@
+-- The function table: the functions of a script in the order in which their names were first defined, and the tables
+-- that open subshells saved.
+use Rattle.std.specs.Prelude.{List, [], ◌∷◌, ◌++◌, Option, Bool, nat_eq}
+use Rattle.std.specs.Cmp.Lexicographic.{pointwise}
+use Rattle.std.specs.Map.{lookup, remove_entry, keys_of}
+use Rattle.std.specs.List.{IsDistinct}
+use Rattle.indexmap.specs.IndexMap.{insert_entry}
+use Rattle.eb_bytes.specs.Text.{Text}
+use Rattle.eb_syntax.specs.declared.tree.Command.{Command}
+
+-- Names with their bodies.
+abbrev pub Table : Type 0
+Table = List (Text × Command)
+
+-- Whether two names are the same bytes.
+abbrev pub is_name : Text → Text → Bool
+is_name = pointwise nat_eq
+
+-- The body of the function of this name, none where there is no such function.
+abbrev pub body_of : Text → Table → Option Command
+body_of name table = lookup (is_name name) table
+
+-- The table with this body for this name: a new name goes to the end, a known one keeps its place.
+abbrev pub with_body : Text → Command → Table → Table
+with_body name body table = insert_entry is_name table name body
+
+-- The table without the function of this name. The others keep their order.
+abbrev pub without : Text → Table → Table
+without name table = remove_entry (is_name name) table
+
+-- No name stands twice in the table.
+abbrev pub HasDistinctNames : Table → Type 0
+HasDistinctNames table = IsDistinct is_name (keys_of table)
+
+-- The present table, and those that the open subshells saved, the innermost one's last.
+pub record Tables : Type 0 where
+  pub present : Table
+  pub saved : List Table
+
+-- No functions, and no open subshell.
+abbrev pub no_tables : Tables
+no_tables = record { present = []; saved = [] }
+
+-- The tables once this table is the present one.
+abbrev pub now_present : Table → Tables → Tables
+now_present table tables = record { present = table; saved = tables.saved }
+
+-- The tables once one more subshell is open.
+abbrev pub once_open : Tables → Tables
+once_open tables = record { present = tables.present; saved = tables.saved ++ tables.present ∷ [] }

@@ -1,0 +1,2 @@
+-- One module for each owner of the crate's module `shared`.
+pub mod Shared
