@@ -1,0 +1,5 @@
+pub mod Cuts
+pub mod Later
+pub mod Mirrored
+pub mod Parted
+pub mod Walked
