@@ -31,7 +31,7 @@ is_empty-last : (t : Text) (b : ℕ) → is_empty (t ++ b ∷ []) ≡ false
 is_empty-last [] b = refl
 is_empty-last (c ∷ t) b = refl
 
-is_empty-reverse : (t : Text) → is_empty (reverse t) ≡ is_empty t
+pub is_empty-reverse : (t : Text) → is_empty (reverse t) ≡ is_empty t
 is_empty-reverse [] = refl
 is_empty-reverse (b ∷ t) = ap is_empty (reverse-first b t) ∙ is_empty-last (reverse t) b
 

@@ -11,7 +11,7 @@ use Rattle.bash_patterns.proofs.Cuts.{or-false, or-or}
 use Rattle.bash_patterns.proofs.Later.{later-AnyTimes, later-AtMostOnce, later-Both, later-Choice, later-Empty, later-OnceOrMore, later-Single, later-Whatever, refused-Not, starts-valued}
 
 -- where the walk begins nothing is left of what was kept
-pub Done : Text → List Bool → Type 0
+unfoldable pub Done : Text → List Bool → Type 0
 Done [] rest = rest ≡ []
 Done (b ∷ t) rest = Unit {0}
 

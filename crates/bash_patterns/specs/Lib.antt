@@ -1,7 +1,10 @@
 pub mod Brackets
+pub mod Facing
 pub mod Form
 pub mod Kept
 pub mod Matching
 pub mod Parts
+pub mod Pattern
+pub mod Places
 pub mod Turned
 pub mod Walk

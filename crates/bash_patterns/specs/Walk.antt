@@ -1,5 +1,6 @@
 -- How a text is walked, byte by byte from its end, with the places kept at which the rest of the pattern matches.
 use Rattle.std.specs.Prelude.{ℕ, Bool, true, false, ◌&&◌, ◌||◌, not, List, [], ◌∷◌, ◌++◌, length, take, drop}
+use Rattle.std.specs.List.{list_any, zip}
 use Rattle.eb_bytes.specs.Text.{Text}
 use Rattle.bash_patterns.specs.declared.test.Test.{Test}
 use Rattle.bash_patterns.specs.Form.{Form, Empty, Single, Whatever, Both, Choice, AtMostOnce, AnyTimes, OnceOrMore, Not, passes}
@@ -74,3 +75,7 @@ step (OnceOrMore p) t old after = step p t old (after || (peek p t old false).va
 step (Not p) t old after =
     let held = after ∷ take (length t) old in
     record { value = refused (matches p) held t; rest = drop (length t) old; kept = held }
+
+-- whether one of these does not match while what stands behind it can follow
+abbrev pub some_refused : List Bool → List Bool → Bool
+some_refused ms after = list_any (λ p. not p.0 && p.1) (zip ms after)

@@ -1,6 +1,7 @@
-ghost use Rattle.std.specs.Prelude.{◌≡◌, [], ◌∷◌, ◌++◌, OnOk, OnErr};
+ghost use Rattle.std.specs.Prelude.{◌≡◌, [], ◌∷◌, ◌++◌, OnOk};
+ghost use Rattle.std.specs.List.{list_any};
+ghost use Rattle.bash_patterns.specs.Brackets.{in_bracket, in_class, in_member};
 
-use crate::symbol::Symbol;
 use eb_bytes::Memory;
 use std::alloc::Global;
 use std::marker::Model;
@@ -22,6 +23,28 @@ pub enum Class {
     Xdigit,
 }
 
+impl Class {
+    /// Whether the byte is in the class.
+    pub fn has(self, byte: u8) -> bool
+        ensures { result ≡ in_class self byte }
+    {
+        match self {
+            Class::Alnum => matches!(byte, b'0'..=b'9' | b'A'..=b'Z' | b'a'..=b'z'),
+            Class::Alpha => matches!(byte, b'A'..=b'Z' | b'a'..=b'z'),
+            Class::Blank => matches!(byte, b'\t' | b' '),
+            Class::Cntrl => matches!(byte, 0..=31 | 127),
+            Class::Digit => matches!(byte, b'0'..=b'9'),
+            Class::Graph => matches!(byte, 33..=126),
+            Class::Lower => matches!(byte, b'a'..=b'z'),
+            Class::Print => matches!(byte, 32..=126),
+            Class::Punct => matches!(byte, 33..=47 | 58..=64 | 91..=96 | 123..=126),
+            Class::Space => matches!(byte, 9..=13 | 32),
+            Class::Upper => matches!(byte, b'A'..=b'Z'),
+            Class::Xdigit => matches!(byte, b'0'..=b'9' | b'A'..=b'F' | b'a'..=b'f'),
+        }
+    }
+}
+
 /// A member of a bracket expression.
 #[derive(Clone, Copy, Debug, PartialEq, Eq)]
 pub enum Member {
@@ -29,6 +52,18 @@ pub enum Member {
     Range(u8, u8),
     /// The bytes of a class.
     Class(Class),
+}
+
+impl Member {
+    /// Whether the byte is of this member.
+    pub fn has(self, byte: u8) -> bool
+        ensures { result ≡ in_member byte self }
+    {
+        match self {
+            Member::Range(low, high) => low <= byte && byte <= high,
+            Member::Class(class) => class.has(byte),
+        }
+    }
 }
 
 /// A list of members. Contracts see it as that list.
@@ -52,4 +87,42 @@ pub struct Bracket {
     /// Whether it matches the bytes that are no members.
     pub negated: bool,
     pub members: Members,
+}
+
+impl Members {
+    /// No members. Takes no memory.
+    pub fn new(alloc: Global) -> Members
+        ensures { result ≡ [] }
+    {
+        Members {
+            items: Vec::new(alloc),
+        }
+    }
+
+    /// Puts this member at the end.
+    ///
+    /// # Errors
+    /// `Memory` where there is no room for it.
+    pub fn push(&mut self, member: Member) -> Result<(), Memory>
+        ensures ok { OnOk result (self.new ≡ self.old ++ member ∷ []) }
+    {
+        self.items.push(member)?;
+        Ok(())
+    }
+
+    /// Whether the byte is of a member.
+    pub fn has(&self, byte: u8) -> bool
+        ensures { result ≡ list_any (in_member byte) self.now }
+    {
+        self.items.iter().any(|member| member.has(byte))
+    }
+}
+
+impl Bracket {
+    /// Whether the byte matches.
+    pub fn has(&self, byte: u8) -> bool
+        ensures { result ≡ in_bracket self.now byte }
+    {
+        self.members.has(byte) != self.negated
+    }
 }

@@ -3,6 +3,12 @@
 
 mod bracket;
 mod node;
+mod pattern;
+mod places;
 mod symbol;
 mod test;
+mod walk;
+mod way;
+
+pub use pattern::Pattern;
 
