@@ -1,8 +1,10 @@
 pub mod Cuts
 pub mod Faced
 pub mod Found
+pub mod Gathered
 pub mod Grown
 pub mod Later
+pub mod Members
 pub mod Mirrored
 pub mod Parted
 pub mod Walked

@@ -1,10 +1,14 @@
+pub mod Bracketed
 pub mod Brackets
 pub mod Facing
 pub mod Form
+pub mod Groups
 pub mod Kept
 pub mod Matching
 pub mod Parts
 pub mod Pattern
 pub mod Places
+pub mod Seen
+pub mod Symbols
 pub mod Turned
 pub mod Walk

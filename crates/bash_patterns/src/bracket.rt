@@ -1,49 +1,11 @@
 ghost use Rattle.std.specs.Prelude.{◌≡◌, [], ◌∷◌, ◌++◌, OnOk};
 ghost use Rattle.std.specs.List.{list_any};
-ghost use Rattle.bash_patterns.specs.Brackets.{in_bracket, in_class, in_member};
+ghost use Rattle.bash_patterns.specs.Brackets.{in_bracket, in_member};
 
+use crate::class::Class;
 use eb_bytes::Memory;
 use std::alloc::Global;
 use std::marker::Model;
-
-/// The character classes of POSIX, in ASCII.
-#[derive(Clone, Copy, Debug, PartialEq, Eq)]
-pub enum Class {
-    Alnum,
-    Alpha,
-    Blank,
-    Cntrl,
-    Digit,
-    Graph,
-    Lower,
-    Print,
-    Punct,
-    Space,
-    Upper,
-    Xdigit,
-}
-
-impl Class {
-    /// Whether the byte is in the class.
-    pub fn has(self, byte: u8) -> bool
-        ensures { result ≡ in_class self byte }
-    {
-        match self {
-            Class::Alnum => matches!(byte, b'0'..=b'9' | b'A'..=b'Z' | b'a'..=b'z'),
-            Class::Alpha => matches!(byte, b'A'..=b'Z' | b'a'..=b'z'),
-            Class::Blank => matches!(byte, b'\t' | b' '),
-            Class::Cntrl => matches!(byte, 0..=31 | 127),
-            Class::Digit => matches!(byte, b'0'..=b'9'),
-            Class::Graph => matches!(byte, 33..=126),
-            Class::Lower => matches!(byte, b'a'..=b'z'),
-            Class::Print => matches!(byte, 32..=126),
-            Class::Punct => matches!(byte, 33..=47 | 58..=64 | 91..=96 | 123..=126),
-            Class::Space => matches!(byte, 9..=13 | 32),
-            Class::Upper => matches!(byte, b'A'..=b'Z'),
-            Class::Xdigit => matches!(byte, b'0'..=b'9' | b'A'..=b'F' | b'a'..=b'f'),
-        }
-    }
-}
 
 /// A member of a bracket expression.
 #[derive(Clone, Copy, Debug, PartialEq, Eq)]

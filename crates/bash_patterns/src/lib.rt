@@ -2,6 +2,9 @@
 #![tactic(auto)]
 
 mod bracket;
+mod bracket_reader;
+mod class;
+mod group;
 mod node;
 mod pattern;
 mod places;
