@@ -60,7 +60,7 @@ end_more rest ss s end =
     let longer : suc (length ss) - length rest ≡ suc (length ss - length rest) = omega arith in
     record { shorter = omega arith; is = end.is ∙ ap (λ n. drop n (s ∷ ss)) (sym longer) }
 
-whole_end : (ss : List Symbol) → IsEnd ss ss
+pub whole_end : (ss : List Symbol) → IsEnd ss ss
 whole_end ss =
     let none : length ss - length ss ≡ 0 = omega arith in
     record { shorter = omega arith; is = ap (λ n. drop n ss) (sym none) }

@@ -1,17 +1,25 @@
-ghost use Rattle.std.specs.Prelude.{◌≡◌, ◌≤◌, length, IfOk};
+ghost use Rattle.std.specs.Prelude.{◌≡◌, ◌≤◌, length, None, IfOk};
 ghost use Rattle.bash_patterns.specs.Form.{form_of};
+ghost use Rattle.bash_patterns.specs.Joining.{IsReadAs};
 ghost use Rattle.bash_patterns.specs.Matching.{matches as matches_form};
 ghost use Rattle.bash_patterns.specs.Pattern.{meaning};
 ghost use Rattle.bash_patterns.specs.Places.{IsFirstBegin, IsGreatest, IsLeast, IsLeftmost, matches_before, matches_from};
+ghost use Rattle.bash_patterns.specs.Reading.{pattern_of};
 
+use crate::error::PatErr;
 use crate::node::Node;
 use crate::places::{first_true, from_end, last_true, value_at};
+use crate::read::read;
+use crate::symbol::symbols_of;
 use crate::walk::walk;
 use crate::way::{Goal, Way};
-use eb_bytes::Memory;
+use eb_bytes::{Marked, Memory};
 use std::alloc::Global;
 
-/// A compiled pattern.
+// How many groups may be nested.
+const MAX_NESTED: u8 = 64;
+
+/// A compiled pattern. Its `meaning` is what it says of each text.
 #[derive(Drop)]
 pub struct Pattern {
     alloc: Global,
@@ -19,6 +27,21 @@ pub struct Pattern {
 }
 
 impl Pattern {
+    /// Compiles a pattern (Bash Reference Manual, "Pattern Matching"). Quoted marks stand for themselves, Empty and Break
+    /// marks for nothing, and an unquoted backslash quotes what follows. Extended groups are read only where `extended` says
+    /// so. The pattern keeps the allocator for its walks.
+    ///
+    /// # Errors
+    /// `TooDeep` where more than 64 groups are nested, `Memory` where there is no room for the pattern.
+    pub fn compile(alloc: Global, marks: &Marked, extended: bool) -> Result<Pattern, PatErr>
+        ensures ok { IfOk result (λ pattern. IsReadAs (pattern_of extended marks.now) (meaning pattern)) }
+        ensures deep { result ≡ Err PatErr.TooDeep → pattern_of extended marks.now ≡ None }
+    {
+        let symbols = symbols_of(alloc, marks.as_slice())?;
+        let root = read(alloc, symbols.as_slice(), extended, MAX_NESTED)?;
+        Ok(Pattern { alloc, root })
+    }
+
     /// Whether the pattern matches the whole text.
     ///
     /// # Errors
