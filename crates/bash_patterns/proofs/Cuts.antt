@@ -1,5 +1,5 @@
 -- Ways to cut a text in two.
-use Rattle.std.proofs.Common.{◌≡◌, ℕ, zero, suc, ◌+◌, ◌≤◌, Bool, true, false, ◌&&◌, ◌||◌, not, List, [], ◌∷◌, length, refl, ap, sym, ◌∙◌, arith}
+use Rattle.std.proofs.Common.{◌≡◌, ℕ, zero, suc, ◌≤◌, Bool, true, false, ◌&&◌, ◌||◌, [], ◌∷◌, length, refl, ap, sym, ◌∙◌, arith}
 use Rattle.eb_bytes.specs.Text.{Text}
 use Rattle.bash_patterns.specs.Matching.{is_empty, some_cut, repeats, repeated}
 

@@ -1,15 +1,12 @@
 -- Texts as a walk sees them.
-use Rattle.std.proofs.Common.{◌≡◌, ◌==◌, ℕ, suc, ◌+◌, ◌-◌, ◌<◌, ◌≤◌, Bool, true, false, List, [], ◌∷◌, ◌++◌, length, take, drop, reverse, get_or, Option, Some, refl, ap, sym, subst, ◌∙◌, arith, length-drop}
-use Rattle.std.proofs.lemmas.List.{drop_at, length-reverse, length-take-le, reverse-append, reverse-reverse, take-append-drop, take_at, take_rest}
+use Rattle.std.proofs.Common.{◌≡◌, ◌==◌, ℕ, suc, ◌-◌, ◌≤◌, [], ◌∷◌, ◌++◌, length, take, drop, reverse, Some, refl, ap, sym, ◌∙◌, arith, length-drop}
+use Rattle.std.proofs.lemmas.List.{drop_at, length-reverse, reverse-append, take-append-drop}
 use Rattle.std.proofs.lemmas.Bool.{ne_eqb}
 use Rattle.eb_bytes.specs.Text.{Text}
 use Rattle.bash_patterns.specs.declared.way.Way.{Way}
 use Rattle.bash_patterns.specs.declared.way.Way.TheVariants.{Backward, Forward}
-use Rattle.bash_patterns.specs.declared.way.Goal.{Goal}
-use Rattle.bash_patterns.specs.declared.way.Goal.TheVariants.{End, Anywhere}
-use Rattle.bash_patterns.specs.Form.{Form}
-use Rattle.bash_patterns.specs.Facing.{facing, facing_form, first_byte, holds, opposite}
-use Rattle.bash_patterns.specs.Matching.{is_empty, matches}
+use Rattle.bash_patterns.specs.Facing.{facing, first_byte}
+use Rattle.bash_patterns.specs.Matching.{is_empty}
 use Rattle.bash_patterns.proofs.Mirrored.{is_empty-reverse}
 
 -- the last bytes of a text read from its end are its first bytes

@@ -1,8 +1,8 @@
 -- What the places of a walk say of the text.
-use Rattle.std.proofs.Common.{◌≡◌, ◌≢◌, ℕ, suc, ◌+◌, ◌-◌, ◌<◌, ◌≤◌, Bool, true, false, ◌&&◌, List, [], ◌∷◌, ◌++◌, length, take, drop, reverse, Option, Some, None, get_or, slice_index_or, refl, ap, subst, sym, ◌∙◌, ◌⊎◌, inl, inr, arith, length-append, length-drop}
+use Rattle.std.proofs.Common.{◌≡◌, ℕ, suc, ◌+◌, ◌-◌, ◌<◌, ◌≤◌, Bool, true, false, ◌&&◌, List, [], ◌∷◌, ◌++◌, length, take, drop, reverse, Option, Some, None, get_or, slice_index_or, refl, ap, subst, sym, ◌∙◌, ◌⊎◌, inl, inr, arith, length-append, length-drop}
 use Rattle.std.specs.Option.{option_map}
 use Rattle.std.proofs.lemmas.Bool.{cases_lt}
-use Rattle.std.proofs.lemmas.List.{drop-drop, get_or_append_left, get_or_at, length-reverse, length_push, reverse-reverse, take-append-drop, take_at}
+use Rattle.std.proofs.lemmas.List.{drop-drop, get_or_append_left, get_or_at, length-reverse, length_push, take_at}
 use Rattle.eb_bytes.specs.Text.{Text}
 use Rattle.bash_patterns.specs.declared.way.Way.TheVariants.{Backward, Forward}
 use Rattle.bash_patterns.specs.declared.way.Goal.TheVariants.{End, Anywhere}
@@ -10,13 +10,13 @@ use Rattle.bash_patterns.specs.Form.{Form}
 use Rattle.bash_patterns.specs.Facing.{facing, facing_form, grown, holds}
 use Rattle.bash_patterns.specs.Kept.{starts}
 use Rattle.bash_patterns.specs.Matching.{matches, some_cut}
-use Rattle.bash_patterns.specs.Places.{IsFirst, IsFirstBegin, IsFirstTrue, IsGreatest, IsLastTrue, IsLeast, IsLeftmost, begins_at, matches_before, matches_between, matches_from}
+use Rattle.bash_patterns.specs.Places.{IsFirstBegin, IsFirstTrue, IsGreatest, IsLastTrue, IsLeast, IsLeftmost, begins_at, matches_before, matches_from}
 use Rattle.bash_patterns.specs.Turned.{turned}
 use Rattle.bash_patterns.proofs.Cuts.{and-true, some_cut-same}
 use Rattle.bash_patterns.proofs.Faced.{drop-reverse}
 use Rattle.bash_patterns.proofs.Grown.{starts-whole}
 use Rattle.bash_patterns.proofs.Mirrored.{matches-turned}
-use Rattle.bash_patterns.proofs.Parted.{Cut, cut_of}
+use Rattle.bash_patterns.proofs.Parted.{cut_of}
 
 length-grown : (m : Text → Bool) (t : Text) → length (grown m t) ≡ length t + 1
 unfolding grown
@@ -92,18 +92,20 @@ decided p t values shown s e =
 says_fronts : (p : Form) (t : Text) (values shown : List Bool) → shown ≡ values → values ≡ grown (starts (facing_form Forward p) (holds End)) (facing Forward t) → Says shown (matches_before (matches p) t) (length t)
 unfolding facing facing_form
 says_fronts p t values shown s e = record {
-    long = ap length (s ∙ e) ∙ length-grown (starts (turned p) (holds End)) (reverse t) ∙ ap (λ n. n + 1) (length-reverse t);
-    at = λ i h.
-        let less : length (reverse t) - i ≡ length t - i = ap (λ n. n - i) (length-reverse t) in
-        ap (λ v. get_or v i false) (s ∙ e) ∙ get_or-grown (starts (turned p) (holds End)) (reverse t) i (omega (arith, length-reverse t, h)) ∙ ap (λ n. starts (turned p) (holds End) (drop n (reverse t))) less ∙ ap (starts (turned p) (holds End)) (sym (drop-reverse t i h)) ∙ starts-whole (turned p) (reverse (take i t)) ∙ matches-turned p (take i t) }
+  long = ap length (s ∙ e) ∙ length-grown (starts (turned p) (holds End)) (reverse t) ∙ ap (λ n. n + 1) (length-reverse t);
+  at = λ i h.
+      let less : length (reverse t) - i ≡ length t - i = ap (λ n. n - i) (length-reverse t) in
+      ap (λ v. get_or v i false) (s ∙ e) ∙ get_or-grown (starts (turned p) (holds End)) (reverse t) i (omega (arith, length-reverse t, h)) ∙ ap (λ n. starts (turned p) (holds End) (drop n (reverse t))) less ∙ ap (starts (turned p) (holds End)) (sym (drop-reverse t i h)) ∙ starts-whole (turned p) (reverse (take i t)) ∙ matches-turned p (take i t);
+}
 
 says_ends : (p : Form) (t : Text) (values shown : List Bool) → shown ≡ values → values ≡ grown (starts (facing_form Backward p) (holds End)) (facing Backward t) → SaysBack shown (matches_from (matches p) t) (length t)
 unfolding facing facing_form
 says_ends p t values shown s e = record {
-    long = ap length (s ∙ e) ∙ length-grown (starts p (holds End)) t;
-    at = λ i h.
-        let back : length t - (length t - i) ≡ i = omega arith in
-        ap (λ v. get_or v (length t - i) false) (s ∙ e) ∙ get_or-grown (starts p (holds End)) t (length t - i) (omega arith) ∙ ap (λ n. starts p (holds End) (drop n t)) back ∙ starts-whole p (drop i t) }
+  long = ap length (s ∙ e) ∙ length-grown (starts p (holds End)) t;
+  at = λ i h.
+      let back : length t - (length t - i) ≡ i = omega arith in
+      ap (λ v. get_or v (length t - i) false) (s ∙ e) ∙ get_or-grown (starts p (holds End)) t (length t - i) (omega arith) ∙ ap (λ n. starts p (holds End) (drop n t)) back ∙ starts-whole p (drop i t);
+}
 
 pub shortest_front : (p : Form) (t : Text) (values shown : List Bool) (place : Option ℕ) → shown ≡ values → values ≡ grown (starts (facing_form Forward p) (holds End)) (facing Forward t) → IsFirstTrue shown (length shown) place → IsLeast (matches_before (matches p) t) (length t) place
 shortest_front p t values shown place s e first = least_from_first shown (matches_before (matches p) t) (length t) place (says_fronts p t values shown s e) first
@@ -172,12 +174,13 @@ leftmost m t from begin size first last =
     let long : length (drop begin t) ≡ length t - begin = length-drop begin t in
     let back : begin + size - begin ≡ size = omega arith in
     record {
-        not_before = first.0;
-        in_order = omega arith;
-        in_text = omega (arith, long, first.1, last.0);
-        matched = ap (λ n. m (take n (drop begin t))) back ∙ last.1;
-        first = first.3;
-        longest = λ j h l. last.2 (j - begin) (omega arith) (omega (arith, long)) }
+      not_before = first.0;
+      in_order = omega arith;
+      in_text = omega (arith, long, first.1, last.0);
+      matched = ap (λ n. m (take n (drop begin t))) back ∙ last.1;
+      first = first.3;
+      longest = λ j h l. last.2 (j - begin) (omega arith) (omega (arith, long));
+    }
 
 pub no_end : (m : Text → Bool) (t rest : Text) (from begin : ℕ) (first last : Option ℕ) → IsFirstBegin m t from first → first ≡ Some begin → rest ≡ drop begin t → IsGreatest (matches_before m rest) (length rest) last → last ≡ None → ⊥
 no_end m t rest from begin first last f fe re l le =

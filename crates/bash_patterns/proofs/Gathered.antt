@@ -1,5 +1,5 @@
 -- The alternatives of a group, gathered one after another.
-use Rattle.std.proofs.Common.{◌≡◌, ℕ, zero, suc, ◌+◌, ◌-◌, ◌<◌, ◌≤◌, List, [], ◌∷◌, ◌++◌, length, take, drop, Option, Some, None, refl, ap, subst, sym, ◌∙◌, arith, append_assoc, length-append, length-drop}
+use Rattle.std.proofs.Common.{◌≡◌, ℕ, zero, suc, ◌+◌, ◌-◌, ◌≤◌, List, [], ◌∷◌, ◌++◌, length, take, drop, Option, Some, None, refl, ap, subst, sym, ◌∙◌, arith, append_assoc, length-append, length-drop}
 use Rattle.std.proofs.lemmas.List.{append-nil, drop-drop, length-take-le, take-append-drop, take_at}
 use Rattle.bash_patterns.specs.declared.symbol.Symbol.{Symbol}
 use Rattle.bash_patterns.specs.declared.symbol.Role.{Role}
@@ -48,8 +48,9 @@ end_part all rest xs behind end e =
     let shorter = end.shorter in
     let place : (length all - length rest) + length xs ≡ length all - length behind = omega arith in
     record {
-        shorter = omega arith;
-        is = sym (drop_at' xs behind) ∙ ap (drop (length xs)) (sym e ∙ end.is) ∙ drop-drop (length xs) (length all - length rest) all ∙ ap (λ n. drop n all) place }
+      shorter = omega arith;
+      is = sym (drop_at' xs behind) ∙ ap (drop (length xs)) (sym e ∙ end.is) ∙ drop-drop (length xs) (length all - length rest) all ∙ ap (λ n. drop n all) place;
+    }
   where
     drop_at' : (ys zs : List Symbol) → drop (length ys) (ys ++ zs) ≡ zs
     drop_at' [] zs = refl
@@ -81,10 +82,11 @@ gathering_begins all =
     let none : length all - length all ≡ 0 = omega arith in
     let nothing : between all 0 all ≡ [] = ap (λ n. take (n - 0) all) none in
     record {
-        is_end = record { shorter = omega arith; is = ap (λ n. drop n all) (sym none) };
-        ordered = omega arith;
-        shallow = omega arith;
-        gathered = first (cut_from 0 0 all) ∙ ap (λ v. glued [] v (cut_from 0 0 all)) (sym nothing) }
+      is_end = record { shorter = omega arith; is = ap (λ n. drop n all) (sym none) };
+      ordered = omega arith;
+      shallow = omega arith;
+      gathered = first (cut_from 0 0 all) ∙ ap (λ v. glued [] v (cut_from 0 0 all)) (sym nothing);
+    }
   where
     first : (o : Option Cut) → parted o ≡ glued [] [] o
     first None = refl
@@ -95,10 +97,11 @@ kept_on all list start depth depth' rest xs behind g e h cut =
     let long : length rest ≡ length xs + length behind = ap length e ∙ length-append xs behind in
     let ordered = g.ordered in
     record {
-        is_end = end_part all rest xs behind g.is_end e;
-        ordered = omega arith;
-        shallow = h;
-        gathered = g.gathered ∙ ap (glued list (between all start rest)) cut ∙ glued-keeping_all list (between all start rest) xs (cut_from depth' 0 behind) ∙ ap (λ v. glued list v (cut_from depth' 0 behind)) (sym (between_more all start rest xs behind g.is_end g.ordered e)) }
+      is_end = end_part all rest xs behind g.is_end e;
+      ordered = omega arith;
+      shallow = h;
+      gathered = g.gathered ∙ ap (glued list (between all start rest)) cut ∙ glued-keeping_all list (between all start rest) xs (cut_from depth' 0 behind) ∙ ap (λ v. glued list v (cut_from depth' 0 behind)) (sym (between_more all start rest xs behind g.is_end g.ordered e));
+    }
 
 -- what a symbol does
 cut-first : (depth : ℕ) (s : Symbol) (ss : List Symbol) (r : Role) → r ≡ role_of s → cut_from depth 0 (s ∷ ss) ≡ cut_by r depth s ss (λ n k. cut_from n k ss)
@@ -134,10 +137,11 @@ gather_bar all list list' start rest s behind part g e re pe le =
     let none : length all - length behind - (length all - length behind) ≡ 0 = omega arith in
     let nothing : between all (length all - length behind) behind ≡ [] = ap (λ n. take n (drop (length all - length behind) all)) none in
     record {
-        is_end = end;
-        ordered = omega arith;
-        shallow = omega arith;
-        gathered = g.gathered ∙ ap (glued list (between all start rest)) (ap (cut_from 0 0) e ∙ cut-first 0 s behind role.Bar re) ∙ glued-next list (between all start rest) (cut_from 0 0 behind) ∙ ap (λ v. glued v [] (cut_from 0 0 behind)) (ap (λ v. list ++ v ∷ []) (sym pe) ∙ sym le) ∙ ap (λ v. glued list' v (cut_from 0 0 behind)) (sym nothing) }
+      is_end = end;
+      ordered = omega arith;
+      shallow = omega arith;
+      gathered = g.gathered ∙ ap (glued list (between all start rest)) (ap (cut_from 0 0) e ∙ cut-first 0 s behind role.Bar re) ∙ glued-next list (between all start rest) (cut_from 0 0 behind) ∙ ap (λ v. glued v [] (cut_from 0 0 behind)) (ap (λ v. list ++ v ∷ []) (sym pe) ∙ sym le) ∙ ap (λ v. glued list' v (cut_from 0 0 behind)) (sym nothing);
+    }
 
 pub gather_closed : (all : List Symbol) (list list' : List (List Symbol)) (start : ℕ) (rest : List Symbol) (s : Symbol) (behind part : List Symbol) → Gathering all list start 0 rest → rest ≡ s ∷ behind → role.GroupClosing ≡ role_of s → part ≡ between all start rest → list' ≡ list ++ part ∷ [] → Some (record { list = list'; rest = behind }) ≡ alternatives_at all
 gather_closed all list list' start rest s behind part g e re pe le =

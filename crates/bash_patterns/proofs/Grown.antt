@@ -1,21 +1,20 @@
 -- What a whole walk says.
-use Rattle.std.proofs.Common.{◌≡◌, ℕ, suc, ◌+◌, ◌-◌, ◌<◌, ◌≤◌, Bool, true, false, ◌&&◌, ◌||◌, not, List, [], ◌∷◌, ◌++◌, length, take, drop, reverse, get_or, refl, ap, subst, sym, ◌∙◌, append_assoc, arith, add-one}
-use Rattle.std.proofs.lemmas.List.{append-nil, drop_all, drop_more, length-reverse, length_push, reverse-append, reverse-reverse}
+use Rattle.std.proofs.Common.{◌≡◌, ℕ, suc, ◌+◌, ◌-◌, ◌<◌, Bool, true, false, ◌&&◌, ◌||◌, not, List, [], ◌∷◌, ◌++◌, length, take, drop, reverse, get_or, refl, ap, subst, sym, ◌∙◌, append_assoc, arith, add-one}
+use Rattle.std.proofs.lemmas.List.{append-nil, drop_all, drop_more, reverse-append, reverse-reverse}
 use Rattle.eb_bytes.specs.Text.{Text}
 use Rattle.bash_patterns.specs.declared.way.Way.{Way}
 use Rattle.bash_patterns.specs.declared.way.Way.TheVariants.{Backward, Forward}
-use Rattle.bash_patterns.specs.declared.way.Goal.{Goal}
-use Rattle.bash_patterns.specs.declared.way.Goal.TheVariants.{End, Anywhere}
+use Rattle.bash_patterns.specs.declared.way.Goal.TheVariants.{End}
 use Rattle.bash_patterns.specs.Form.{Form, Not}
 use Rattle.bash_patterns.specs.Facing.{facing, facing_form, grown, holds, opposite}
 use Rattle.bash_patterns.specs.Kept.{before, kept, starts}
-use Rattle.bash_patterns.specs.Matching.{is_empty, matches, some_cut}
+use Rattle.bash_patterns.specs.Matching.{matches}
 use Rattle.bash_patterns.specs.Turned.{turned}
-use Rattle.bash_patterns.specs.Walk.{Step, refused, some_refused, step}
+use Rattle.bash_patterns.specs.Walk.{refused, some_refused, step}
 use Rattle.bash_patterns.proofs.Cuts.{some_cut-whole}
 use Rattle.bash_patterns.proofs.Faced.{facing_length}
 use Rattle.bash_patterns.proofs.Mirrored.{matches-turned}
-use Rattle.bash_patterns.proofs.Walked.{Done, IsStep, stepped}
+use Rattle.bash_patterns.proofs.Walked.{Done, stepped}
 
 -- what a test says of the fronts of a text, the empty one first
 fronts : (Text → Bool) → Text → List Bool
@@ -114,8 +113,9 @@ walk_begun p k v part n held held' values values' l e h0 v0 h' v' =
     let none : drop (n - 0) v ≡ [] = drop_all (n - 0) v (omega arith) in
     let first = begun_at p k part (e ∙ none) in
     record {
-        held_is = h' ∙ ap (λ h. (step p part h (k part)).kept) h0 ∙ first.held_is ∙ ap (kept p k) e;
-        values_are = v' ∙ one_more values [] (step p part held (k part)).value (step p part [] (k part)).value v0 (ap (λ h. (step p part h (k part)).value) h0) ∙ first.values_are ∙ ap (grown (starts p k)) e }
+      held_is = h' ∙ ap (λ h. (step p part h (k part)).kept) h0 ∙ first.held_is ∙ ap (kept p k) e;
+      values_are = v' ∙ one_more values [] (step p part held (k part)).value (step p part [] (k part)).value v0 (ap (λ h. (step p part h (k part)).value) h0) ∙ first.values_are ∙ ap (grown (starts p k)) e;
+    }
 
 pub walk_next : (p : Form) (k : Text → Bool) (v part : Text) (n count : ℕ) (held held' values values' : List Bool) → length v ≡ n → count < n → part ≡ drop (n - (count + 1)) v → held' ≡ (step p part held (k part)).kept → values' ≡ values ++ (step p part held (k part)).value ∷ [] → IsAt p k (drop (n - count) v) held values → IsAt p k (drop (n - (count + 1)) v) held' values'
 walk_next p k v part n count held held' values values' l h e h' v' at =
@@ -123,5 +123,6 @@ walk_next p k v part n count held held' values values' l h e h' v' at =
     let more : n - count ≡ suc (n - (count + 1)) = omega arith in
     let next = next_at p k v (n - (count + 1)) held values (omega arith) (subst P more at) in
     record {
-        held_is = h' ∙ ap (λ u. (step p u held (k u)).kept) e ∙ next.held_is;
-        values_are = v' ∙ ap (λ u. values ++ (step p u held (k u)).value ∷ []) e ∙ next.values_are }
+      held_is = h' ∙ ap (λ u. (step p u held (k u)).kept) e ∙ next.held_is;
+      values_are = v' ∙ ap (λ u. values ++ (step p u held (k u)).value ∷ []) e ∙ next.values_are;
+    }

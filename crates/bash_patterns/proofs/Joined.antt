@@ -1,7 +1,6 @@
 -- Trees that are joined.
-use Rattle.std.proofs.Common.{◌≡◌, ℕ, zero, suc, ◌+◌, ◌-◌, ◌≤◌, Bool, false, ◌&&◌, ◌||◌, not, List, [], ◌∷◌, ◌++◌, length, map, take, drop, Option, Some, None, refl, ap, subst, sym, ◌∙◌, arith, append_assoc, length-append}
-use Rattle.std.specs.Option.{option_map}
-use Rattle.std.proofs.lemmas.List.{append-nil, drop-append-le, drop_at, length-map, length-take-le, map-append, map_push, take-append-drop, take-map}
+use Rattle.std.proofs.Common.{◌≡◌, ℕ, zero, suc, ◌-◌, ◌≤◌, ◌&&◌, ◌||◌, not, List, [], ◌∷◌, ◌++◌, length, map, take, drop, refl, ap, sym, ◌∙◌, arith, length-append}
+use Rattle.std.proofs.lemmas.List.{drop-append-le, drop_at, length-map, length-take-le, map_push, take-append-drop, take-map}
 use mathlib.Core.Path.{fun_ext}
 use Rattle.eb_bytes.specs.Text.{Text}
 use Rattle.bash_patterns.specs.declared.group.GroupKind.{GroupKind}
@@ -9,8 +8,8 @@ use Rattle.bash_patterns.specs.declared.group.GroupKind.TheVariants as kind
 use Rattle.bash_patterns.specs.declared.join.Join.{Join}
 use Rattle.bash_patterns.specs.declared.join.Join.TheVariants as join
 use Rattle.bash_patterns.specs.declared.node.Node.{Node}
-use Rattle.bash_patterns.specs.Form.{Form, form_of}
-use Rattle.bash_patterns.specs.Joining.{IsReadAs, Language, joined, language, languages, paired}
+use Rattle.bash_patterns.specs.Form.{Form}
+use Rattle.bash_patterns.specs.Joining.{Language, joined, language, languages, paired}
 use Rattle.bash_patterns.specs.Matching.{is_empty, matches, repeated, some_cut}
 use Rattle.bash_patterns.specs.Reading.{choice_of, grouped, row_of}
 use Rattle.bash_patterns.proofs.Cuts.{or-false, or-or, some_cut-both, some_cut-empty, some_cut-whole}

@@ -1,12 +1,12 @@
 -- Where a form can begin, by the form.
-use Rattle.std.proofs.Common.{◌≡◌, ℕ, Bool, true, false, ◌&&◌, ◌||◌, not, List, [], ◌∷◌, ◌++◌, refl, ap, sym, ◌∙◌}
+use Rattle.std.proofs.Common.{◌≡◌, ℕ, Bool, true, false, ◌&&◌, ◌||◌, not, [], ◌∷◌, refl, ap, sym, ◌∙◌}
 use Rattle.eb_bytes.specs.Text.{Text}
 use Rattle.bash_patterns.specs.declared.test.Test.{Test}
 use Rattle.bash_patterns.specs.Form.{Form, Empty, Single, Whatever, Both, Choice, AtMostOnce, AnyTimes, OnceOrMore, Not, passes}
 use Rattle.bash_patterns.specs.Matching.{is_empty, matches, repeated, some_cut}
 use Rattle.bash_patterns.specs.Kept.{along, later, starts, valued}
-use Rattle.bash_patterns.specs.Walk.{begins_with, refused}
-use Rattle.bash_patterns.proofs.Cuts.{and-and, and-or, and-true, or-and, or-false, or-or, repeated-first, some_cut-and, some_cut-both, some_cut-empty, some_cut-false, some_cut-or, some_cut-same, some_cut-within}
+use Rattle.bash_patterns.specs.Walk.{refused}
+use Rattle.bash_patterns.proofs.Cuts.{and-and, and-true, or-and, or-false, repeated-first, some_cut-and, some_cut-both, some_cut-empty, some_cut-false, some_cut-or, some_cut-same}
 
 -- by whether a byte is taken
 pub starts-valued : (p : Form) (k : Text → Bool) (t : Text) → starts p k t ≡ valued p k (k t) t

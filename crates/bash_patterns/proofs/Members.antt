@@ -1,9 +1,8 @@
 -- The members of a bracket expression, read one after another.
-use Rattle.std.proofs.Common.{◌≡◌, ℕ, zero, suc, ◌+◌, ◌-◌, ◌<◌, ◌≤◌, Bool, true, false, List, [], ◌∷◌, ◌++◌, length, drop, Option, Some, None, if◌then◌else◌, refl, ap, subst, sym, ◌∙◌, arith, append_assoc}
-use Rattle.std.proofs.lemmas.List.{drop-drop}
+use Rattle.std.proofs.Common.{◌≡◌, ℕ, zero, suc, ◌-◌, ◌≤◌, Bool, true, false, List, [], ◌∷◌, ◌++◌, length, drop, Option, Some, None, if◌then◌else◌, refl, ap, subst, sym, ◌∙◌, arith, append_assoc}
 use Rattle.bash_patterns.specs.declared.bracket.Member.{Member}
 use Rattle.bash_patterns.specs.declared.symbol.Symbol.{Symbol}
-use Rattle.bash_patterns.specs.Bracketed.{Closed, Read, Taken, as_bracket, bracket_at, closes, member_at, members_from, negates, with_member}
+use Rattle.bash_patterns.specs.Bracketed.{Closed, Read, as_bracket, bracket_at, closes, member_at, members_from, negates, with_member}
 use Rattle.bash_patterns.specs.Symbols.{role_of}
 
 pub members-skip : (k : ℕ) (ss : List Symbol) → members_from false k ss ≡ members_from false 0 (drop k ss)

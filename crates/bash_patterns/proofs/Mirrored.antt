@@ -1,5 +1,5 @@
 -- A turned form matches the texts read from their ends.
-use Rattle.std.proofs.Common.{◌≡◌, ℕ, Bool, true, false, ◌&&◌, ◌||◌, not, List, [], ◌∷◌, ◌++◌, length, reverse, refl, ap, subst, sym, ◌∙◌, append_assoc}
+use Rattle.std.proofs.Common.{◌≡◌, ℕ, Bool, true, false, ◌&&◌, ◌||◌, not, List, [], ◌∷◌, ◌++◌, reverse, refl, ap, subst, sym, ◌∙◌, append_assoc}
 use Rattle.std.specs.List.{list_all}
 use Rattle.std.proofs.lemmas.Bool.{and_from, and_parts}
 use Rattle.std.proofs.lemmas.List.{reverse-append, reverse-reverse}
@@ -9,8 +9,8 @@ use Rattle.bash_patterns.specs.Form.{Form, Empty, Single, Whatever, Both, Choice
 use Rattle.bash_patterns.specs.Matching.{is_empty, is_single, matches, some_cut, repeated}
 use Rattle.bash_patterns.specs.Parts.{IsMadeOf, joined}
 use Rattle.bash_patterns.specs.Turned.{turned}
-use Rattle.bash_patterns.proofs.Cuts.{some_cut-same, or-swap}
-use Rattle.bash_patterns.proofs.Parted.{Cut, both_made, cut_of, made_repeated, more_parts, no_parts, one_part, repeated_made, same_test, some_cut-from}
+use Rattle.bash_patterns.proofs.Cuts.{some_cut-same}
+use Rattle.bash_patterns.proofs.Parted.{both_made, cut_of, made_repeated, more_parts, no_parts, one_part, repeated_made, same_test, some_cut-from}
 
 or-turned : (x y : Bool) → (x || y) ≡ (y || x)
 or-turned true true = refl

@@ -1,9 +1,9 @@
 -- Cuts as pairs of texts, and repeats as lists of parts.
-use Rattle.std.proofs.Common.{◌≡◌, ℕ, zero, suc, ◌≤◌, Bool, true, false, ◌&&◌, ◌||◌, List, [], ◌∷◌, ◌++◌, length, refl, ap, subst, sym, ◌∙◌, append_assoc, arith}
+use Rattle.std.proofs.Common.{◌≡◌, ℕ, zero, suc, Bool, true, false, ◌&&◌, ◌||◌, List, [], ◌∷◌, ◌++◌, length, refl, ap, subst, sym, ◌∙◌, append_assoc}
 use Rattle.std.specs.List.{list_all}
 use Rattle.std.proofs.lemmas.Bool.{and_from, and_parts, or_left, or_right}
 use Rattle.eb_bytes.specs.Text.{Text}
-use Rattle.bash_patterns.specs.Matching.{is_empty, some_cut, repeats, repeated}
+use Rattle.bash_patterns.specs.Matching.{some_cut, repeats, repeated}
 use Rattle.bash_patterns.specs.Parts.{IsMadeOf, joined}
 use Rattle.bash_patterns.proofs.Cuts.{repeated-first}
 
@@ -58,9 +58,10 @@ two a b c d p q = cc
 
 pub both_made : (m : Text → Bool) (s t : Text) → IsMadeOf m s → IsMadeOf m t → IsMadeOf m (s ++ t)
 both_made m s t p q = record {
-    parts = p.parts ++ q.parts;
-    whole = joined-append p.parts q.parts ∙ two (joined p.parts) s (joined q.parts) t p.whole q.whole;
-    each = list_all-append m p.parts q.parts p.each q.each }
+  parts = p.parts ++ q.parts;
+  whole = joined-append p.parts q.parts ∙ two (joined p.parts) s (joined q.parts) t p.whole q.whole;
+  each = list_all-append m p.parts q.parts p.each q.each;
+}
 
 pub one_part : (m : Text → Bool) (a : Text) → m a ≡ true → IsMadeOf m a
 one_part m a h = record { parts = a ∷ []; whole = append-none a; each = and_from (m a) true h refl }

@@ -1,5 +1,5 @@
 -- A list of symbols, read form by form.
-use Rattle.std.proofs.Common.{◌≡◌, ℕ, zero, suc, ◌+◌, ◌-◌, ◌<◌, ◌≤◌, Bool, true, false, List, [], ◌∷◌, ◌++◌, length, map, take, drop, Option, Some, None, Result, Err, Bor, get_or, refl, ap, subst, sym, ◌∙◌, arith, append_assoc, if◌then◌else◌}
+use Rattle.std.proofs.Common.{◌≡◌, ℕ, zero, suc, ◌+◌, ◌-◌, ◌<◌, ◌≤◌, Bool, List, [], ◌∷◌, ◌++◌, length, map, drop, Option, Some, None, Result, Err, Bor, get_or, refl, ap, subst, sym, ◌∙◌, arith, append_assoc}
 use Rattle.std.specs.Option.{option_map}
 use Rattle.std.proofs.lemmas.List.{append-nil, drop_all, drop_more, map-append}
 use Rattle.eb_bytes.specs.declared.marked.Mark.{Mark}
@@ -14,7 +14,7 @@ use Rattle.bash_patterns.specs.Form.{Form, form_of}
 use Rattle.bash_patterns.specs.Groups.{Cut, Parted, alternatives_at, cut_by, cut_from, keeping, next_alternative, parted, past_bracket}
 use Rattle.bash_patterns.specs.Joining.{IsAdded, IsReadAs, Language, groups_of, joined, language, languages}
 use Rattle.bash_patterns.specs.Matching.{matches}
-use Rattle.bash_patterns.specs.Reading.{First, Groups, as_group, behind_first, bracketed, choice_of, each_form, first_by, first_of, forms_from, group_by, grouped, joined_forms, kind_at, pattern_of, plain, reading, row_of, single}
+use Rattle.bash_patterns.specs.Reading.{First, Groups, as_group, behind_first, bracketed, choice_of, each_form, first_by, first_of, forms_from, grouped, joined_forms, kind_at, pattern_of, plain, reading, row_of, single}
 use Rattle.bash_patterns.specs.Symbols.{role_of, symbols_of}
 use Rattle.bash_patterns.proofs.Joined.{choice-language, grouped-same, row-language}
 use Rattle.bash_patterns.proofs.Members.{IsEnd, bracket-end, end_more, whole_end}

@@ -1,10 +1,10 @@
 -- A step of the walk, from what was kept one byte before: it says where the form can begin, and keeps the same for the next.
-use Rattle.std.proofs.Common.{◌≡◌, ℕ, suc, Bool, true, false, ◌&&◌, ◌||◌, not, List, [], ◌∷◌, ◌++◌, length, take, drop, refl, ap, sym, ◌∙◌, append_assoc}
+use Rattle.std.proofs.Common.{◌≡◌, suc, Bool, true, false, ◌&&◌, ◌||◌, not, List, [], ◌∷◌, ◌++◌, length, take, drop, refl, ap, sym, ◌∙◌, append_assoc}
 use Rattle.std.proofs.lemmas.List.{take_at, drop_at}
 use Rattle.eb_bytes.specs.Text.{Text}
 use Rattle.bash_patterns.specs.declared.test.Test.{Test}
 use Rattle.bash_patterns.specs.Form.{Form, Empty, Single, Whatever, Both, Choice, AtMostOnce, AnyTimes, OnceOrMore, Not, passes}
-use Rattle.bash_patterns.specs.Matching.{matches, some_cut}
+use Rattle.bash_patterns.specs.Matching.{matches}
 use Rattle.bash_patterns.specs.Kept.{along, before, kept, later, starts, valued}
 use Rattle.bash_patterns.specs.Walk.{Peek, Step, begins_with, first_kept, peek, refused, rest_kept, step}
 use Rattle.bash_patterns.proofs.Cuts.{or-false, or-or}

@@ -1,5 +1,5 @@
 -- How a bracket expression is read (Bash Reference Manual, "Pattern Matching").
-use Rattle.std.specs.Prelude.{ℕ, zero, suc, Bool, true, false, ◌==◌, ◌&&◌, ◌||◌, not, List, [], ◌∷◌, length, Option, Some, None, codes, if◌then◌else◌}
+use Rattle.std.specs.Prelude.{ℕ, zero, suc, Bool, true, false, ◌==◌, ◌&&◌, ◌||◌, List, [], ◌∷◌, length, Option, Some, None, codes, if◌then◌else◌}
 use Rattle.eb_bytes.specs.Text.{Text}
 use Rattle.bash_patterns.specs.declared.class.Class.{Class}
 use Rattle.bash_patterns.specs.declared.class.Class.TheVariants.{Alnum, Alpha, Blank, Cntrl, Digit, Graph, Lower, Print, Punct, Space, Upper, Xdigit}

@@ -1,9 +1,9 @@
 -- How an extended group is cut into its alternatives (Bash Reference Manual, "Pattern Matching").
-use Rattle.std.specs.Prelude.{ℕ, zero, suc, ◌-◌, Bool, ◌==◌, List, [], ◌∷◌, length, take, drop, Option, Some, None, if◌then◌else◌}
+use Rattle.std.specs.Prelude.{ℕ, zero, suc, ◌-◌, ◌==◌, List, [], ◌∷◌, length, take, drop, Option, Some, None, if◌then◌else◌}
 use Rattle.bash_patterns.specs.declared.group.GroupKind.{GroupKind}
 use Rattle.bash_patterns.specs.declared.group.GroupKind.TheVariants as kind
 use Rattle.bash_patterns.specs.declared.symbol.Symbol.{Symbol}
-use Rattle.bash_patterns.specs.declared.symbol.Symbol.TheVariants.{Unquoted, Quoted}
+use Rattle.bash_patterns.specs.declared.symbol.Symbol.TheVariants.{Unquoted}
 use Rattle.bash_patterns.specs.declared.symbol.Role.{Role}
 use Rattle.bash_patterns.specs.declared.symbol.Role.TheVariants as role
 use Rattle.bash_patterns.specs.Bracketed.{Read, bracket_at}

@@ -4,7 +4,6 @@ use Rattle.eb_bytes.specs.Text.{Text}
 use Rattle.bash_patterns.specs.declared.join.Join.{Join}
 use Rattle.bash_patterns.specs.declared.join.Join.TheVariants as join
 use Rattle.bash_patterns.specs.declared.node.Node.{Node}
-use Rattle.bash_patterns.specs.declared.symbol.Symbol.{Symbol}
 use Rattle.bash_patterns.specs.Form.{Form, form_of}
 use Rattle.bash_patterns.specs.Matching.{is_empty, matches, some_cut}
 use Rattle.bash_patterns.specs.Reading.{Groups, group_by, no_group, reading}

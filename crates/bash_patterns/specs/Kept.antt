@@ -1,5 +1,5 @@
 -- The places at which a pattern can begin, and what is kept of them while a text is walked from its end.
-use Rattle.std.specs.Prelude.{ℕ, Bool, true, false, ◌&&◌, ◌||◌, List, [], ◌∷◌, ◌++◌}
+use Rattle.std.specs.Prelude.{Bool, false, ◌&&◌, ◌||◌, List, [], ◌∷◌, ◌++◌}
 use Rattle.eb_bytes.specs.Text.{Text}
 use Rattle.bash_patterns.specs.Form.{Form, Empty, Single, Whatever, Both, Choice, AtMostOnce, AnyTimes, OnceOrMore, Not}
 use Rattle.bash_patterns.specs.Matching.{matches, some_cut}

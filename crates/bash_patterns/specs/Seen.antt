@@ -1,5 +1,5 @@
 -- What the code's own types stand for while a pattern is read.
-use Rattle.std.specs.Prelude.{List, map}
+use Rattle.std.specs.Prelude.{map}
 use Rattle.bash_patterns.specs.declared.bracket_reader.BracketRead.{BracketRead}
 use Rattle.bash_patterns.specs.declared.bracket_reader.MembersRead.{MembersRead}
 use Rattle.bash_patterns.specs.declared.group.Alternatives.{Alternatives}

@@ -1,5 +1,5 @@
 -- The symbols of a pattern: its bytes, and which are quoted.
-use Rattle.std.specs.Prelude.{ℕ, Bool, true, false, ◌==◌, List, [], ◌∷◌, Option, Some, None, if◌then◌else◌}
+use Rattle.std.specs.Prelude.{ℕ, Bool, true, false, ◌==◌, List, [], ◌∷◌, if◌then◌else◌}
 use Rattle.eb_bytes.specs.declared.marked.Mark.{Mark}
 use Rattle.eb_bytes.specs.declared.marked.Mark.TheVariants as mark
 use Rattle.bash_patterns.specs.declared.symbol.Symbol.{Symbol}

@@ -1,6 +1,4 @@
 -- Patterns and texts read from the other end.
-use Rattle.std.specs.Prelude.{List, reverse}
-use Rattle.eb_bytes.specs.Text.{Text}
 use Rattle.bash_patterns.specs.Form.{Form, Empty, Single, Whatever, Both, Choice, AtMostOnce, AnyTimes, OnceOrMore, Not}
 
 -- the form that matches what this one matches, read from its end

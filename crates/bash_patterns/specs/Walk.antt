@@ -1,5 +1,5 @@
 -- How a text is walked, byte by byte from its end, with the places kept at which the rest of the pattern matches.
-use Rattle.std.specs.Prelude.{ℕ, Bool, true, false, ◌&&◌, ◌||◌, not, List, [], ◌∷◌, ◌++◌, length, take, drop}
+use Rattle.std.specs.Prelude.{Bool, false, ◌&&◌, ◌||◌, not, List, [], ◌∷◌, ◌++◌, length, take, drop}
 use Rattle.std.specs.List.{list_any, zip}
 use Rattle.eb_bytes.specs.Text.{Text}
 use Rattle.bash_patterns.specs.declared.test.Test.{Test}

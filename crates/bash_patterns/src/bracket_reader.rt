@@ -142,7 +142,11 @@ pub fn read_bracket(alloc: Global, symbols: &[Symbol]) -> Result<Option<BracketR
     }
 }
 
-fn bracket_of(alloc: Global, negated: bool, symbols: &[Symbol]) -> Result<Option<BracketRead<'_>>, Memory>
+fn bracket_of(
+    alloc: Global,
+    negated: bool,
+    symbols: &[Symbol],
+) -> Result<Option<BracketRead<'_>>, Memory>
     ensures read { IfOk result (λ read. option_map seen_read read ≡ as_bracket negated (members_from true 0 symbols.now)) }
     ensures rest { IfOk result (λ found. IfSome found (λ read. length read.rest.now ≤ length symbols.now)) }
 {

@@ -111,7 +111,8 @@ fn begins_unquoted(text: &[u8], symbols: &[Symbol]) -> bool
     match text {
         [] => true,
         [byte, text @ ..] => match symbols {
-            [Symbol::Unquoted(own), symbols @ ..] => *own == *byte && begins_unquoted(text, symbols),
+            [Symbol::Unquoted(own), symbols @ ..] => *own == *byte
+                && begins_unquoted(text, symbols),
             _ => false,
         },
     }

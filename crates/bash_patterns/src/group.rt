@@ -60,7 +60,10 @@ pub struct Alternatives<'s> {
 ///
 /// # Errors
 /// `Memory` where there is no room for them.
-pub fn alternatives_at(alloc: Global, symbols: &[Symbol]) -> Result<Option<Alternatives<'_>>, Memory>
+pub fn alternatives_at(
+    alloc: Global,
+    symbols: &[Symbol],
+) -> Result<Option<Alternatives<'_>>, Memory>
     ensures { IfOk result (λ found. option_map seen_alternatives found ≡ alternatives_at symbols.now) }
 {
     let mut list = Vec::new(alloc);

@@ -22,4 +22,3 @@ mod way;
 pub use error::PatErr;
 pub use laws::repeats_are_any_parts;
 pub use pattern::Pattern;
-

@@ -100,11 +100,7 @@ impl Pattern {
     ///
     /// # Errors
     /// `Memory` where there is no room for the walks.
-    pub fn first_match(
-        &self,
-        text: &[u8],
-        from: usize,
-    ) -> Result<Option<(usize, usize)>, Memory>
+    pub fn first_match(&self, text: &[u8], from: usize) -> Result<Option<(usize, usize)>, Memory>
         ensures { IfOk result (λ places. IsLeftmost (meaning self.now) text.now from places) }
     {
         if from > text.len() {

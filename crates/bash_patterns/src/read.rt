@@ -21,12 +21,7 @@ use std::alloc::Global;
 /// # Errors
 /// `TooDeep` exactly where more groups are nested, `Memory` where there is no room for the tree.
 #[cycle(read)]
-pub fn read(
-    alloc: Global,
-    symbols: &[Symbol],
-    extended: bool,
-    levels: u8,
-) -> Result<Node, PatErr>
+pub fn read(alloc: Global, symbols: &[Symbol], extended: bool, levels: u8) -> Result<Node, PatErr>
     ensures ok { IfOk result (λ node. IsReadAs (reading levels extended symbols.now) (language node)) }
     ensures deep { result ≡ Err PatErr.TooDeep → reading levels extended symbols.now ≡ None }
 {
@@ -97,7 +92,11 @@ fn read_group(
 fn kind_at(extended: bool, symbol: Symbol, behind: &[Symbol]) -> Option<GroupKind>
     ensures { result ≡ kind_at extended symbol behind.now }
 {
-    if extended { group_kind(symbol, behind) } else { None }
+    if extended {
+        group_kind(symbol, behind)
+    } else {
+        None
+    }
 }
 
 fn behind_first(symbols: &[Symbol]) -> &[Symbol]

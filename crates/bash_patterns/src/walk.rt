@@ -251,7 +251,15 @@ pub fn walk(
 {
     let mut kept = Vec::new(alloc);
     let mut values = Vec::new(alloc);
-    turn(alloc, node, way, way.part(text, 0), goal, &mut kept, &mut values)?;
+    turn(
+        alloc,
+        node,
+        way,
+        way.part(text, 0),
+        goal,
+        &mut kept,
+        &mut values,
+    )?;
     for count in 0..text.len() {
         let part = way.part(text, count + 1);
         turn(alloc, node, way, part, goal, &mut kept, &mut values)?;

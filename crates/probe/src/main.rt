@@ -6,6 +6,7 @@
 #![tactic(auto)]
 
 mod field;
+mod patterns;
 mod request;
 mod versions;
 

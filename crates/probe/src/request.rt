@@ -1,4 +1,5 @@
 use crate::field::{read_texts, what};
+use crate::patterns::match_pattern;
 use crate::versions::{cut, rs, test, version};
 use eb_bytes::{Memory, words_of};
 use std::alloc::Global;
@@ -9,6 +10,9 @@ pub fn answer(alloc: Global, line: &[u8]) -> Result<String, Memory> {
     let [name, fields @ ..] = fields.as_slice() else {
         return what(alloc);
     };
+    if name.as_slice() == b"match".as_slice() {
+        return match_pattern(alloc, fields);
+    }
     let Some(texts) = read_texts(alloc, fields)? else {
         return what(alloc);
     };

@@ -1,7 +1,7 @@
 use Rattle.std.proofs.Common.{◌∙◌, ap, sym, true}
 use Rattle.std.specs.Option.{option_map}
 use Rattle.bash_patterns.specs.Seen.{seen_closed}
-use Rattle.bash_patterns.proofs.Members.{IsEnd, members-end}
+use Rattle.bash_patterns.proofs.Members.{members-end}
 use Rattle.bash_patterns.proofs.bracket_reader.bracket_of.Goals as goal
 
 pub returns-in-Some-clause-rest : goal.returns-in-Some-clause-rest

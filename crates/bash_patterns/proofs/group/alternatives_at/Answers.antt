@@ -5,7 +5,6 @@ use Rattle.bash_patterns.specs.Seen.{seen_read}
 use Rattle.bash_patterns.proofs.Gathered.{at_zero, from_zero, gather_bar, gather_bracket, gather_closed, gather_closing, gather_inner_bar, gather_never, gather_none, gather_opening, gather_plain, gathering_begins}
 use Rattle.bash_patterns.proofs.group.alternatives_at.Goals as goal
 
-
 pub loop-symbol-init : goal.loop-symbol-init
 loop-symbol-init c = rw c.new-list.ensures.items (gathering_begins c.args.symbols.now)
 

@@ -1,4 +1,4 @@
-use Rattle.std.proofs.Common.{◌≤◌, arith, length, refl}
+use Rattle.std.proofs.Common.{arith, length, refl}
 use Rattle.bash_patterns.specs.Joining.{language}
 use Rattle.bash_patterns.proofs.Joined.{joined_last, joined_none, joined_pair}
 use Rattle.bash_patterns.proofs.join.+join_last.Goals as goal

@@ -1,4 +1,4 @@
-use Rattle.std.proofs.Common.{◌∙◌, ◌-◌, length, rules, sym}
+use Rattle.std.proofs.Common.{◌-◌, length}
 use Rattle.std.proofs.lemmas.List.{take_rest}
 use Rattle.bash_patterns.specs.Facing.{facing}
 use Rattle.bash_patterns.proofs.Faced.{drop-reverse}
