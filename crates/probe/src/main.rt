@@ -12,6 +12,7 @@ mod entries;
 mod field;
 mod marks;
 mod names;
+mod patterns;
 mod request;
 mod splits;
 mod versions;

@@ -3,6 +3,7 @@ use crate::entries::entry;
 use crate::field::{read_texts, what};
 use crate::names::names;
 use crate::splits::split;
+use crate::patterns::match_pattern;
 use crate::versions::{cut, rs, test, version};
 use eb_bytes::{Memory, words_of};
 use std::alloc::Global;
@@ -15,6 +16,9 @@ pub fn answer(alloc: Global, line: &[u8]) -> Result<String, Memory> {
     };
     if name.as_slice() == b"split".as_slice() {
         return split(alloc, fields);
+    }
+    if name.as_slice() == b"match".as_slice() {
+        return match_pattern(alloc, fields);
     }
     let Some(texts) = read_texts(alloc, fields)? else {
         return what(alloc);

@@ -1,0 +1,12 @@
+pub mod Cuts
+pub mod Faced
+pub mod Found
+pub mod Gathered
+pub mod Grown
+pub mod Joined
+pub mod Later
+pub mod Members
+pub mod Mirrored
+pub mod Parted
+pub mod Readings
+pub mod Walked

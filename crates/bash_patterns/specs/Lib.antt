@@ -1,0 +1,16 @@
+pub mod Bracketed
+pub mod Brackets
+pub mod Facing
+pub mod Form
+pub mod Groups
+pub mod Joining
+pub mod Kept
+pub mod Matching
+pub mod Parts
+pub mod Pattern
+pub mod Places
+pub mod Reading
+pub mod Seen
+pub mod Symbols
+pub mod Turned
+pub mod Walk

@@ -1,0 +1,90 @@
+ghost use Rattle.std.specs.Prelude.{◌≡◌, [], ◌∷◌, ◌++◌, OnOk};
+ghost use Rattle.std.specs.List.{list_any};
+ghost use Rattle.bash_patterns.specs.Brackets.{in_bracket, in_member};
+
+use crate::class::Class;
+use eb_bytes::Memory;
+use std::alloc::Global;
+use std::marker::Model;
+
+/// A member of a bracket expression.
+#[derive(Clone, Copy, Debug, PartialEq, Eq)]
+pub enum Member {
+    /// The bytes from the first to the second.
+    Range(u8, u8),
+    /// The bytes of a class.
+    Class(Class),
+}
+
+impl Member {
+    /// Whether the byte is of this member.
+    pub fn has(self, byte: u8) -> bool
+        ensures { result ≡ in_member byte self }
+    {
+        match self {
+            Member::Range(low, high) => low <= byte && byte <= high,
+            Member::Class(class) => class.has(byte),
+        }
+    }
+}
+
+/// A list of members. Contracts see it as that list.
+#[derive(Debug, Drop)]
+pub struct Members {
+    items: Vec<Member>,
+}
+
+impl Model for Members {
+    ghost use Rattle.std.specs.Prelude.{List};
+    ghost use Rattle.bash_patterns.specs.declared.bracket.Member.{Member};
+
+    ghost Value = { List Member };
+
+    ghost view = { λ m. m.items.items };
+}
+
+/// A bracket expression.
+#[derive(Debug, Drop)]
+pub struct Bracket {
+    /// Whether it matches the bytes that are no members.
+    pub negated: bool,
+    pub members: Members,
+}
+
+impl Members {
+    /// No members. Takes no memory.
+    pub fn new(alloc: Global) -> Members
+        ensures { result ≡ [] }
+    {
+        Members {
+            items: Vec::new(alloc),
+        }
+    }
+
+    /// Puts this member at the end.
+    ///
+    /// # Errors
+    /// `Memory` where there is no room for it.
+    pub fn push(&mut self, member: Member) -> Result<(), Memory>
+        ensures ok { OnOk result (self.new ≡ self.old ++ member ∷ []) }
+    {
+        self.items.push(member)?;
+        Ok(())
+    }
+
+    /// Whether the byte is of a member.
+    pub fn has(&self, byte: u8) -> bool
+        ensures { result ≡ list_any (in_member byte) self.now }
+    {
+        self.items.iter().any(|member| member.has(byte))
+    }
+}
+
+impl Bracket {
+    /// Whether the byte matches.
+    pub fn has(&self, byte: u8) -> bool
+        ensures { result ≡ in_bracket self.now byte }
+    {
+        self.members.has(byte) != self.negated
+    }
+}

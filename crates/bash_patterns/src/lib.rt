@@ -1,0 +1,24 @@
+//! Shell patterns (Bash Reference Manual, "Pattern Matching"): how they are read, and where in a text they match.
+#![tactic(auto)]
+
+mod bracket;
+mod bracket_reader;
+mod class;
+mod error;
+mod group;
+mod join;
+mod laws;
+mod node;
+mod pattern;
+mod places;
+mod read;
+mod symbol;
+mod test;
+#[cfg(test)]
+mod tests;
+mod walk;
+mod way;
+
+pub use error::PatErr;
+pub use laws::repeats_are_any_parts;
+pub use pattern::Pattern;
