@@ -1,6 +1,6 @@
 -- Texts as a walk sees them.
-use Rattle.std.proofs.Common.{◌≡◌, ◌==◌, ℕ, suc, ◌-◌, ◌≤◌, [], ◌∷◌, ◌++◌, length, take, drop, reverse, Some, refl, ap, sym, ◌∙◌, arith, length-drop}
-use Rattle.std.proofs.lemmas.List.{drop_at, length-reverse, reverse-append, take-append-drop}
+use Rattle.std.proofs.Common.{◌≡◌, ◌==◌, ℕ, suc, ◌+◌, ◌-◌, ◌<◌, ◌≤◌, get_or, [], ◌∷◌, ◌++◌, length, take, drop, reverse, Some, refl, ap, sym, ◌∙◌, arith, length-drop}
+use Rattle.std.proofs.lemmas.List.{drop_at, drop_more, take_more, length-reverse, reverse-append, take-append-drop}
 use Rattle.std.proofs.lemmas.Bool.{ne_eqb}
 use Rattle.eb_bytes.specs.Text.{Text}
 use Rattle.bash_patterns.specs.declared.way.Way.{Way}
@@ -15,6 +15,17 @@ drop-reverse t n h =
     let whole : reverse t ≡ reverse (drop n t) ++ reverse (take n t) = ap reverse (sym (take-append-drop n t)) ∙ reverse-append (take n t) (drop n t) in
     let long : length (reverse (drop n t)) ≡ length t - n = length-reverse (drop n t) ∙ length-drop n t in
     sym (ap (drop (length t - n)) whole ∙ drop_at (reverse (drop n t)) (reverse (take n t)) (length t - n) long)
+
+pub byte_back : (t : Text) (n : ℕ) → n < length t → drop (length t - n - 1) t ≡ get_or t (length t - 1 - n) 0 ∷ drop (length t - n) t
+byte_back t n h =
+    let first : length t - n - 1 ≡ length t - 1 - n = omega arith in
+    let rest : length t - 1 - n + 1 ≡ length t - n = omega arith in
+    ap (λ k. drop k t) first ∙ drop_more t (length t - 1 - n) 0 (omega arith) ∙ ap (λ k. get_or t (length t - 1 - n) 0 ∷ drop k t) rest
+
+pub byte_forth : (t : Text) (n : ℕ) → n < length t → drop (length t - n - 1) (reverse t) ≡ get_or t n 0 ∷ drop (length t - n) (reverse t)
+byte_forth t n h =
+    let last : length t - n - 1 ≡ length t - (n + 1) = omega arith in
+    ap (λ k. drop k (reverse t)) last ∙ sym (drop-reverse t (n + 1) (omega arith)) ∙ ap reverse (take_more t n 0 h) ∙ reverse-append (take n t) (get_or t n 0 ∷ []) ∙ ap (λ v. get_or t n 0 ∷ v) (drop-reverse t n (omega arith))
 
 pub last-byte : (t : Text) (b : ℕ) → first_byte (reverse (t ++ b ∷ [])) ≡ Some b
 last-byte t b = ap first_byte (reverse-append t (b ∷ []))

@@ -1,11 +1,10 @@
 -- Where a form can begin, by the form.
-use Rattle.std.proofs.Common.{◌≡◌, ℕ, Bool, true, false, ◌&&◌, ◌||◌, not, [], ◌∷◌, refl, ap, sym, ◌∙◌}
+use Rattle.std.proofs.Common.{◌≡◌, ℕ, Bool, true, false, ◌&&◌, ◌||◌, [], ◌∷◌, refl, ap, sym, ◌∙◌}
 use Rattle.eb_bytes.specs.Text.{Text}
 use Rattle.bash_patterns.specs.declared.test.Test.{Test}
-use Rattle.bash_patterns.specs.Form.{Form, Empty, Single, Whatever, Both, Choice, AtMostOnce, AnyTimes, OnceOrMore, Not, passes}
+use Rattle.bash_patterns.specs.Form.{Form, Empty, Single, Whatever, Both, Choice, AtMostOnce, AnyTimes, OnceOrMore, passes}
 use Rattle.bash_patterns.specs.Matching.{is_empty, matches, repeated, some_cut}
-use Rattle.bash_patterns.specs.Kept.{along, later, starts, valued}
-use Rattle.bash_patterns.specs.Walk.{refused}
+use Rattle.bash_patterns.specs.Kept.{later, starts, valued}
 use Rattle.bash_patterns.proofs.Cuts.{and-and, and-true, or-and, or-false, repeated-first, some_cut-and, some_cut-both, some_cut-empty, some_cut-false, some_cut-or, some_cut-same}
 
 -- by whether a byte is taken
@@ -80,13 +79,3 @@ later-OnceOrMore p k (b ∷ t) =
     absorbed true true = refl
     absorbed true false = refl
     absorbed false y = refl
-
--- what does not match a form, from what `k` says along the text
-refused-along : (m : Text → Bool) (k : Text → Bool) (t : Text) → refused m (along k t) t ≡ some_cut (λ a c. not (m a) && k c) t
-unfolding along
-refused-along m k [] = refl
-refused-along m k (b ∷ t) = ap (λ v. (not (m []) && k (b ∷ t)) || v) (refused-along (λ a. m (b ∷ a)) k t)
-
-pub refused-Not : (p : Form) (k : Text → Bool) (here : Bool) (b : ℕ) (t : Text) → refused (matches p) (here ∷ along k t) (b ∷ t) ≡ valued (Not p) k here (b ∷ t)
-unfolding later valued matches
-refused-Not p k here b t = ap (λ v. (not (matches p []) && here) || v) (refused-along (λ a. matches p (b ∷ a)) k t)

@@ -1,5 +1,8 @@
+pub mod Combined
 pub mod Cuts
+pub mod Derived
 pub mod Faced
+pub mod Followed
 pub mod Found
 pub mod Gathered
 pub mod Grown
@@ -9,4 +12,5 @@ pub mod Members
 pub mod Mirrored
 pub mod Parted
 pub mod Readings
+pub mod Sizes
 pub mod Walked

@@ -18,7 +18,7 @@ or-turned true false = refl
 or-turned false true = refl
 or-turned false false = refl
 
-and-turned : (x y : Bool) → (x && y) ≡ (y && x)
+pub and-turned : (x y : Bool) → (x && y) ≡ (y && x)
 and-turned true true = refl
 and-turned true false = refl
 and-turned false true = refl
@@ -59,7 +59,7 @@ some_cut-last f (d ∷ t) b = ap (λ v. f [] (d ∷ (t ++ b ∷ [])) || v) (some
     regroup true y z = refl
     regroup false y z = refl
 
-some_cut-reverse : (f : Text → Text → Bool) (t : Text) → some_cut f (reverse t) ≡ some_cut (λ a c. f (reverse c) (reverse a)) t
+pub some_cut-reverse : (f : Text → Text → Bool) (t : Text) → some_cut f (reverse t) ≡ some_cut (λ a c. f (reverse c) (reverse a)) t
 some_cut-reverse f [] = refl
 some_cut-reverse f (b ∷ t) =
     ap (some_cut f) (reverse-first b t)
@@ -146,7 +146,7 @@ either_end m t = same_test (some_cut (λ d e. repeated m d && m e) t) (some_cut 
 
 -- ---- forms
 
-two_tests : (a b c d : Bool) → a ≡ b → c ≡ d → (a && c) ≡ (b && d)
+pub two_tests : (a b c d : Bool) → a ≡ b → c ≡ d → (a && c) ≡ (b && d)
 two_tests a b c d p q = cc
 
 either_test : (a b c d : Bool) → a ≡ b → c ≡ d → (a || c) ≡ (b || d)

@@ -1,14 +1,14 @@
 -- A step of the walk, from what was kept one byte before: it says where the form can begin, and keeps the same for the next.
-use Rattle.std.proofs.Common.{◌≡◌, suc, Bool, true, false, ◌&&◌, ◌||◌, not, List, [], ◌∷◌, ◌++◌, length, take, drop, refl, ap, sym, ◌∙◌, append_assoc}
-use Rattle.std.proofs.lemmas.List.{take_at, drop_at}
+use Rattle.std.proofs.Common.{◌≡◌, Bool, true, false, ◌&&◌, ◌||◌, List, [], ◌∷◌, ◌++◌, refl, ap, sym, ◌∙◌, append_assoc}
+use Rattle.std.proofs.lemmas.Bool.{and_parts}
 use Rattle.eb_bytes.specs.Text.{Text}
 use Rattle.bash_patterns.specs.declared.test.Test.{Test}
 use Rattle.bash_patterns.specs.Form.{Form, Empty, Single, Whatever, Both, Choice, AtMostOnce, AnyTimes, OnceOrMore, Not, passes}
 use Rattle.bash_patterns.specs.Matching.{matches}
-use Rattle.bash_patterns.specs.Kept.{along, before, kept, later, starts, valued}
-use Rattle.bash_patterns.specs.Walk.{Peek, Step, begins_with, first_kept, peek, refused, rest_kept, step}
+use Rattle.bash_patterns.specs.Kept.{before, kept, later, starts, valued}
+use Rattle.bash_patterns.specs.Walk.{Peek, Step, begins_with, first_kept, is_plain, peek, rest_kept, step}
 use Rattle.bash_patterns.proofs.Cuts.{or-false, or-or}
-use Rattle.bash_patterns.proofs.Later.{later-AnyTimes, later-AtMostOnce, later-Both, later-Choice, later-Empty, later-OnceOrMore, later-Single, later-Whatever, refused-Not, starts-valued}
+use Rattle.bash_patterns.proofs.Later.{later-AnyTimes, later-AtMostOnce, later-Both, later-Choice, later-Empty, later-OnceOrMore, later-Single, later-Whatever, starts-valued}
 
 -- where the walk begins nothing is left of what was kept
 unfoldable pub Done : Text → List Bool → Type 0
@@ -165,33 +165,6 @@ starts-OnceOrMore : (p : Form) (k : Text → Bool) (t : Text) → starts p (star
 starts-OnceOrMore p k t =
     starts-valued p (starts (AnyTimes p) k) t ∙ ap (λ v. valued p (starts (AnyTimes p) k) v t) (starts-valued (AnyTimes p) k t) ∙ once-more p k t ∙ valued-OnceOrMore p k (k t) t ∙ sym (starts-valued (OnceOrMore p) k t)
 
--- ---- what does not match a form
-
-length-along : (k : Text → Bool) (t : Text) → length (along k t) ≡ suc (length t)
-unfolding along
-length-along k [] = refl
-length-along k (b ∷ t) = ap suc (length-along k t)
-
-not-front : (p : Form) (k : Text → Bool) (t : Text) (old rest : List Bool) → old ≡ before (Not p) k t ++ rest → take (length t) old ≡ before (Not p) k t
-unfolding before kept
-not-front p k [] old rest e = refl
-not-front p k (b ∷ t) old rest e = ap (take (suc (length t))) e ∙ take_at (along k t) rest (suc (length t)) (length-along k t)
-
-not-rest : (p : Form) (k : Text → Bool) (t : Text) (old rest : List Bool) → old ≡ before (Not p) k t ++ rest → drop (length t) old ≡ rest
-unfolding before kept
-not-rest p k [] old rest e = e
-not-rest p k (b ∷ t) old rest e = ap (drop (suc (length t))) e ∙ drop_at (along k t) rest (suc (length t)) (length-along k t)
-
-not-value : (p : Form) (k : Text → Bool) (here : Bool) (t : Text) → refused (matches p) (here ∷ before (Not p) k t) t ≡ valued (Not p) k here t
-unfolding before kept valued later matches
-not-value p k here [] = sym (or-false (not (matches p []) && here))
-not-value p k here (b ∷ t) = refused-Not p k here b t
-
-not-kept : (p : Form) (k : Text → Bool) (t : Text) → k t ∷ before (Not p) k t ≡ kept (Not p) k t
-unfolding before kept along
-not-kept p k [] = refl
-not-kept p k (b ∷ t) = refl
-
 -- ---- starts, by the form
 
 nothing_before : (k : Text → Bool) (t : Text) (rest : List Bool) → before Empty k t ++ rest ≡ rest
@@ -216,61 +189,59 @@ starts-AtMostOnce p k here t h =
 
 -- ---- a look ahead
 
-pub peeked : (p : Form) (k : Text → Bool) (here : Bool) (t : Text) (old rest : List Bool) → old ≡ before p k t ++ rest → Done t rest → IsPeek p k here t rest (peek p t old here)
+pub peeked : (p : Form) (k : Text → Bool) (here : Bool) (t : Text) (old rest : List Bool) → is_plain p ≡ true → old ≡ before p k t ++ rest → Done t rest → IsPeek p k here t rest (peek p t old here)
 unfolding peek
-peeked Empty k here t old rest e done = record { value = sym (valued-Empty k here t); rest = e ∙ nothing_before k t rest }
-peeked (Single test) k here t old rest e done = record { value = single-value test k here t old rest e done; rest = single-rest test k t old rest e done }
-peeked Whatever k here t old rest e done = record { value = whatever-value k here t old rest e done; rest = whatever-rest k t old rest e done }
-peeked (Both p q) k here t old rest e done =
-    let second = peeked q k here t old (before p (starts q k) t ++ rest) (e ∙ before-Both p q k t rest) (done-more p (starts q k) t rest done) in
-    let first = peeked p (starts q k) (peek q t old here).value t (peek q t old here).rest rest second.rest done in
+peeked Empty k here t old rest plain e done = record { value = sym (valued-Empty k here t); rest = e ∙ nothing_before k t rest }
+peeked (Single test) k here t old rest plain e done = record { value = single-value test k here t old rest e done; rest = single-rest test k t old rest e done }
+peeked Whatever k here t old rest plain e done = record { value = whatever-value k here t old rest e done; rest = whatever-rest k t old rest e done }
+peeked (Both p q) k here t old rest plain e done =
+    let second = peeked q k here t old (before p (starts q k) t ++ rest) (and_parts (is_plain p) (is_plain q) plain).1 (e ∙ before-Both p q k t rest) (done-more p (starts q k) t rest done) in
+    let first = peeked p (starts q k) (peek q t old here).value t (peek q t old here).rest rest (and_parts (is_plain p) (is_plain q) plain).0 second.rest done in
     record { value = first.value ∙ ap (λ v. valued p (starts q k) v t) second.value ∙ valued-Both p q k here t; rest = first.rest }
-peeked (Choice p q) k here t old rest e done =
-    let second = peeked q k here t old (before p k t ++ rest) (e ∙ before-Choice p q k t rest) (done-more p k t rest done) in
-    let first = peeked p k here t (peek q t old here).rest rest second.rest done in
+peeked (Choice p q) k here t old rest plain e done =
+    let second = peeked q k here t old (before p k t ++ rest) (and_parts (is_plain p) (is_plain q) plain).1 (e ∙ before-Choice p q k t rest) (done-more p k t rest done) in
+    let first = peeked p k here t (peek q t old here).rest rest (and_parts (is_plain p) (is_plain q) plain).0 second.rest done in
     record { value = ap (λ v. v || (peek p t (peek q t old here).rest here).value) second.value ∙ ap (λ v. valued q k here t || v) first.value ∙ valued-Choice p q k here t; rest = first.rest }
-peeked (AtMostOnce p) k here t old rest e done =
-    let once = peeked p k here t old rest (e ∙ ap (λ v. v ++ rest) (before-AtMostOnce p k t)) done in
+peeked (AtMostOnce p) k here t old rest plain e done =
+    let once = peeked p k here t old rest plain (e ∙ ap (λ v. v ++ rest) (before-AtMostOnce p k t)) done in
     record { value = ap (λ v. here || v) once.value ∙ valued-AtMostOnce p k here t; rest = once.rest }
-peeked (AnyTimes p) k here t old rest e done =
-    let once = peeked p (starts (AnyTimes p) k) false t old rest (e ∙ ap (λ v. v ++ rest) (before-AnyTimes p k t)) done in
+peeked (AnyTimes p) k here t old rest plain e done =
+    let once = peeked p (starts (AnyTimes p) k) false t old rest plain (e ∙ ap (λ v. v ++ rest) (before-AnyTimes p k t)) done in
     record { value = ap (λ v. here || v) once.value ∙ valued-AnyTimes p k here t; rest = once.rest }
-peeked (OnceOrMore p) k here t old rest e done =
-    let once = peeked p (starts (AnyTimes p) k) here t old rest (e ∙ ap (λ v. v ++ rest) (before-OnceOrMore p k t)) done in
+peeked (OnceOrMore p) k here t old rest plain e done =
+    let once = peeked p (starts (AnyTimes p) k) here t old rest plain (e ∙ ap (λ v. v ++ rest) (before-OnceOrMore p k t)) done in
     record { value = once.value ∙ valued-OnceOrMore p k here t; rest = once.rest }
-peeked (Not p) k here t old rest e done =
-    record { value = ap (λ v. refused (matches p) (here ∷ v) t) (not-front p k t old rest e) ∙ not-value p k here t; rest = not-rest p k t old rest e }
+peeked (Not p) k here t old rest plain e done = absurd (let never : false ≡ true = plain in cc)
 
 -- ---- a step
 
-pub stepped : (p : Form) (k : Text → Bool) (here : Bool) (t : Text) (old rest : List Bool) → old ≡ before p k t ++ rest → here ≡ k t → Done t rest → IsStep p k t rest (step p t old here)
+pub stepped : (p : Form) (k : Text → Bool) (here : Bool) (t : Text) (old rest : List Bool) → is_plain p ≡ true → old ≡ before p k t ++ rest → here ≡ k t → Done t rest → IsStep p k t rest (step p t old here)
 unfolding step kept
-stepped Empty k here t old rest e h done = record { value = h ∙ sym (starts-valued Empty k t ∙ valued-Empty k (k t) t); rest = e ∙ nothing_before k t rest; kept_is = refl }
-stepped (Single test) k here t old rest e h done =
+stepped Empty k here t old rest plain e h done = record { value = h ∙ sym (starts-valued Empty k t ∙ valued-Empty k (k t) t); rest = e ∙ nothing_before k t rest; kept_is = refl }
+stepped (Single test) k here t old rest plain e h done =
     record { value = single-value test k here t old rest e done ∙ ap (λ v. valued (Single test) k v t) h ∙ sym (starts-valued (Single test) k t); rest = single-rest test k t old rest e done; kept_is = ap (λ v. v ∷ []) h }
-stepped Whatever k here t old rest e h done =
+stepped Whatever k here t old rest plain e h done =
     let value = whatever-value k here t old rest e done ∙ ap (λ v. valued Whatever k v t) h ∙ sym (starts-valued Whatever k t) in
     record { value = value; rest = whatever-rest k t old rest e done; kept_is = ap (λ v. v ∷ []) value }
-stepped (Both p q) k here t old rest e h done =
-    let second = stepped q k here t old (before p (starts q k) t ++ rest) (e ∙ before-Both p q k t rest) h (done-more p (starts q k) t rest done) in
-    let first = stepped p (starts q k) (step q t old here).value t (step q t old here).rest rest second.rest second.value done in
+stepped (Both p q) k here t old rest plain e h done =
+    let second = stepped q k here t old (before p (starts q k) t ++ rest) (and_parts (is_plain p) (is_plain q) plain).1 (e ∙ before-Both p q k t rest) h (done-more p (starts q k) t rest done) in
+    let first = stepped p (starts q k) (step q t old here).value t (step q t old here).rest rest (and_parts (is_plain p) (is_plain q) plain).0 second.rest second.value done in
     record { value = first.value ∙ starts-Both p q k t; rest = first.rest; kept_is = both (step q t old here).kept (kept q k t) (step p t (step q t old here).rest (step q t old here).value).kept (kept p (starts q k) t) second.kept_is first.kept_is }
-stepped (Choice p q) k here t old rest e h done =
-    let second = stepped q k here t old (before p k t ++ rest) (e ∙ before-Choice p q k t rest) h (done-more p k t rest done) in
-    let first = stepped p k here t (step q t old here).rest rest second.rest h done in
+stepped (Choice p q) k here t old rest plain e h done =
+    let second = stepped q k here t old (before p k t ++ rest) (and_parts (is_plain p) (is_plain q) plain).1 (e ∙ before-Choice p q k t rest) h (done-more p k t rest done) in
+    let first = stepped p k here t (step q t old here).rest rest (and_parts (is_plain p) (is_plain q) plain).0 second.rest h done in
     record { value = ap (λ v. v || (step p t (step q t old here).rest here).value) second.value ∙ ap (λ v. starts q k t || v) first.value ∙ starts-Choice p q k t; rest = first.rest; kept_is = both (step q t old here).kept (kept q k t) (step p t (step q t old here).rest here).kept (kept p k t) second.kept_is first.kept_is }
-stepped (AtMostOnce p) k here t old rest e h done =
-    let once = stepped p k here t old rest (e ∙ ap (λ v. v ++ rest) (before-AtMostOnce p k t)) h done in
+stepped (AtMostOnce p) k here t old rest plain e h done =
+    let once = stepped p k here t old rest plain (e ∙ ap (λ v. v ++ rest) (before-AtMostOnce p k t)) h done in
     record { value = ap (λ v. here || v) once.value ∙ starts-AtMostOnce p k here t h; rest = once.rest; kept_is = once.kept_is }
-stepped (AnyTimes p) k here t old rest e h done =
-    let ahead = peeked p (starts (AnyTimes p) k) false t old rest (e ∙ ap (λ v. v ++ rest) (before-AnyTimes p k t)) done in
+stepped (AnyTimes p) k here t old rest plain e h done =
+    let ahead = peeked p (starts (AnyTimes p) k) false t old rest plain (e ∙ ap (λ v. v ++ rest) (before-AnyTimes p k t)) done in
     let value = ap (λ v. here || v) ahead.value ∙ valued-AnyTimes p k here t ∙ ap (λ v. valued (AnyTimes p) k v t) h ∙ sym (starts-valued (AnyTimes p) k t) in
-    let once = stepped p (starts (AnyTimes p) k) (here || (peek p t old false).value) t old rest (e ∙ ap (λ v. v ++ rest) (before-AnyTimes p k t)) value done in
+    let once = stepped p (starts (AnyTimes p) k) (here || (peek p t old false).value) t old rest plain (e ∙ ap (λ v. v ++ rest) (before-AnyTimes p k t)) value done in
     record { value = value; rest = once.rest; kept_is = once.kept_is }
-stepped (OnceOrMore p) k here t old rest e h done =
-    let ahead = peeked p (starts (AnyTimes p) k) false t old rest (e ∙ ap (λ v. v ++ rest) (before-OnceOrMore p k t)) done in
+stepped (OnceOrMore p) k here t old rest plain e h done =
+    let ahead = peeked p (starts (AnyTimes p) k) false t old rest plain (e ∙ ap (λ v. v ++ rest) (before-OnceOrMore p k t)) done in
     let value = ap (λ v. here || v) ahead.value ∙ valued-AnyTimes p k here t ∙ ap (λ v. valued (AnyTimes p) k v t) h ∙ sym (starts-valued (AnyTimes p) k t) in
-    let once = stepped p (starts (AnyTimes p) k) (here || (peek p t old false).value) t old rest (e ∙ ap (λ v. v ++ rest) (before-OnceOrMore p k t)) value done in
+    let once = stepped p (starts (AnyTimes p) k) (here || (peek p t old false).value) t old rest plain (e ∙ ap (λ v. v ++ rest) (before-OnceOrMore p k t)) value done in
     record { value = once.value ∙ starts-OnceOrMore p k t; rest = once.rest; kept_is = once.kept_is }
-stepped (Not p) k here t old rest e h done =
-    record { value = ap (λ v. refused (matches p) (here ∷ v) t) (not-front p k t old rest e) ∙ not-value p k here t ∙ ap (λ v. valued (Not p) k v t) h ∙ sym (starts-valued (Not p) k t); rest = not-rest p k t old rest e; kept_is = ap (λ v. here ∷ v) (not-front p k t old rest e) ∙ ap (λ v. v ∷ before (Not p) k t) h ∙ not-kept p k t }
+stepped (Not p) k here t old rest plain e h done = absurd (let never : false ≡ true = plain in cc)

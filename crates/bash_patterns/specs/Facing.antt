@@ -9,10 +9,6 @@ use Rattle.bash_patterns.specs.Form.{Form}
 use Rattle.bash_patterns.specs.Matching.{is_empty}
 use Rattle.bash_patterns.specs.Turned.{turned}
 
-abbrev pub opposite : Way → Way
-opposite Backward = Forward
-opposite Forward = Backward
-
 -- the text as the walk sees it
 unfoldable pub facing : Way → Text → Text
 facing Backward t = t

@@ -17,11 +17,6 @@ later p after (b ∷ t) = some_cut (λ a c. matches p (b ∷ a) && after c) t
 unfoldable pub valued : Form → (Text → Bool) → Bool → Text → Bool
 valued p after here t = (matches p [] && here) || later p after t
 
--- what `after` says of the text, of what stands behind its first byte, and so on to the empty text
-unfoldable pub along : (Text → Bool) → Text → List Bool
-along after [] = after [] ∷ []
-along after (b ∷ t) = after (b ∷ t) ∷ along after t
-
 -- what is kept where the walk has come to this text
 unfoldable pub kept : Form → (Text → Bool) → Text → List Bool
 kept Empty after t = []
@@ -32,7 +27,7 @@ kept (Choice p q) after t = kept q after t ++ kept p after t
 kept (AtMostOnce p) after t = kept p after t
 kept (AnyTimes p) after t = kept p (starts (AnyTimes p) after) t
 kept (OnceOrMore p) after t = kept p (starts (AnyTimes p) after) t
-kept (Not p) after t = along after t
+kept (Not p) after t = []
 
 -- what was kept one byte before; nothing, where the walk begins
 unfoldable pub before : Form → (Text → Bool) → Text → List Bool

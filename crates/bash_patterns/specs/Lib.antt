@@ -5,6 +5,7 @@ pub mod Form
 pub mod Groups
 pub mod Joining
 pub mod Kept
+pub mod Left
 pub mod Matching
 pub mod Parts
 pub mod Pattern

@@ -1,10 +1,8 @@
 -- How a text is walked, byte by byte from its end, with the places kept at which the rest of the pattern matches.
-use Rattle.std.specs.Prelude.{Bool, false, ◌&&◌, ◌||◌, not, List, [], ◌∷◌, ◌++◌, length, take, drop}
-use Rattle.std.specs.List.{list_any, zip}
+use Rattle.std.specs.Prelude.{Bool, true, false, ◌&&◌, ◌||◌, List, [], ◌∷◌, ◌++◌}
 use Rattle.eb_bytes.specs.Text.{Text}
 use Rattle.bash_patterns.specs.declared.test.Test.{Test}
 use Rattle.bash_patterns.specs.Form.{Form, Empty, Single, Whatever, Both, Choice, AtMostOnce, AnyTimes, OnceOrMore, Not, passes}
-use Rattle.bash_patterns.specs.Matching.{matches}
 
 -- what was kept first; nothing kept means no
 abbrev pub first_kept : List Bool → Bool
@@ -20,11 +18,17 @@ abbrev pub begins_with : Test → Text → Bool
 begins_with test [] = false
 begins_with test (b ∷ t) = passes test b
 
--- whether a front of the text does not pass, where what stands behind it is in the list
-abbrev pub refused : (Text → Bool) → List Bool → Text → Bool
-refused m [] t = false
-refused m (k ∷ ks) [] = not (m []) && k
-refused m (k ∷ ks) (b ∷ t) = (not (m []) && k) || refused (λ a. m (b ∷ a)) ks t
+-- whether no part of the form is what does not match another; only such a form is walked by the places kept
+abbrev pub is_plain : Form → Bool
+is_plain Empty = true
+is_plain (Single test) = true
+is_plain Whatever = true
+is_plain (Both p q) = is_plain p && is_plain q
+is_plain (Choice p q) = is_plain p && is_plain q
+is_plain (AtMostOnce p) = is_plain p
+is_plain (AnyTimes p) = is_plain p
+is_plain (OnceOrMore p) = is_plain p
+is_plain (Not p) = false
 
 -- what a form gives before a text, where `after` says whether what follows the form matches there, and what was kept for
 -- the forms before it
@@ -42,7 +46,7 @@ peek (Choice p q) t old after =
 peek (AtMostOnce p) t old after = record { value = after || (peek p t old after).value; rest = (peek p t old after).rest }
 peek (AnyTimes p) t old after = record { value = after || (peek p t old false).value; rest = (peek p t old false).rest }
 peek (OnceOrMore p) t old after = peek p t old after
-peek (Not p) t old after = record { value = refused (matches p) (after ∷ take (length t) old) t; rest = drop (length t) old }
+peek (Not p) t old after = record { value = false; rest = old }
 
 -- the same, with what is kept for the next byte
 pub record Step : Type 0 where
@@ -72,10 +76,4 @@ step (AnyTimes p) t old after =
     let once = step p t old any in
     record { value = any; rest = once.rest; kept = once.kept }
 step (OnceOrMore p) t old after = step p t old (after || (peek p t old false).value)
-step (Not p) t old after =
-    let held = after ∷ take (length t) old in
-    record { value = refused (matches p) held t; rest = drop (length t) old; kept = held }
-
--- whether one of these does not match while what stands behind it can follow
-abbrev pub some_refused : List Bool → List Bool → Bool
-some_refused ms after = list_any (λ p. not p.0 && p.1) (zip ms after)
+step (Not p) t old after = record { value = false; rest = old; kept = [] }

@@ -1,4 +1,4 @@
-ghost use Rattle.std.specs.Prelude.{◌≡◌, [], ◌∷◌, ◌++◌, OnOk};
+ghost use Rattle.std.specs.Prelude.{◌≡◌, true, [], ◌∷◌, ◌++◌, OnOk};
 ghost use Rattle.std.specs.List.{list_any};
 ghost use Rattle.bash_patterns.specs.Brackets.{in_bracket, in_member};
 
@@ -24,6 +24,17 @@ impl Member {
         match self {
             Member::Range(low, high) => low <= byte && byte <= high,
             Member::Class(class) => class.has(byte),
+        }
+    }
+
+    /// Whether it is the other member.
+    pub fn is_same(self, other: Member) -> bool
+        ensures { result ≡ true → self ≡ other }
+    {
+        match (self, other) {
+            (Member::Range(low, high), Member::Range(first, last)) => low == first && high == last,
+            (Member::Class(class), Member::Class(another)) => class == another,
+            _ => false,
         }
     }
 }
@@ -78,6 +89,13 @@ impl Members {
     {
         self.items.iter().any(|member| member.has(byte))
     }
+
+    /// Whether these are the other members.
+    pub fn is_same(&self, other: &Members) -> bool
+        ensures { result ≡ true → self.now ≡ other.now }
+    {
+        same_members(self.items.as_slice(), other.items.as_slice())
+    }
 }
 
 impl Bracket {
@@ -86,5 +104,17 @@ impl Bracket {
         ensures { result ≡ in_bracket self.now byte }
     {
         self.members.has(byte) != self.negated
+    }
+}
+
+fn same_members(members: &[Member], others: &[Member]) -> bool
+    ensures { result ≡ true → members.now ≡ others.now }
+{
+    match members {
+        [] => others.is_empty(),
+        [member, members @ ..] => match others {
+            [other, others @ ..] => member.is_same(*other) && same_members(members, others),
+            [] => false,
+        },
     }
 }

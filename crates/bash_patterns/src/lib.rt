@@ -1,23 +1,29 @@
 //! Shell patterns (Bash Reference Manual, "Pattern Matching"): how they are read, and where in a text they match.
 #![tactic(auto)]
 
+mod behind;
 mod bracket;
 mod bracket_reader;
 mod class;
+mod combine;
 mod error;
+mod follow;
 mod group;
 mod join;
 mod laws;
+mod left;
 mod node;
 mod pattern;
 mod places;
 mod read;
+mod same;
 mod symbol;
 mod test;
 #[cfg(test)]
 mod tests;
 mod walk;
 mod way;
+mod within;
 
 pub use error::PatErr;
 pub use laws::repeats_are_any_parts;

@@ -1,10 +1,10 @@
-ghost use Rattle.std.specs.Prelude.{◌≡◌, [], ◌∷◌, ◌++◌, take, drop, IfOk, OnOk};
+ghost use Rattle.std.specs.Prelude.{◌≡◌, true, [], ◌∷◌, ◌++◌, IfOk, OnOk};
 ghost use Rattle.bash_patterns.specs.Facing.{facing, facing_form, grown, holds};
 ghost use Rattle.bash_patterns.specs.Form.{form_of};
 ghost use Rattle.bash_patterns.specs.Kept.{starts};
-ghost use Rattle.bash_patterns.specs.Matching.{matches};
-ghost use Rattle.bash_patterns.specs.Walk.{first_kept, peek as peek_of, refused, rest_kept, some_refused, step as step_of};
+ghost use Rattle.bash_patterns.specs.Walk.{first_kept, is_plain, peek as peek_of, rest_kept, step as step_of};
 
+use crate::follow::follow;
 use crate::node::Node;
 use crate::way::{Goal, Way};
 use eb_bytes::Memory;
@@ -34,19 +34,9 @@ fn split_first(kept: &[bool]) -> Begun<'_>
     }
 }
 
-// The first so many, and the rest.
-fn split_front(kept: &[bool], count: usize) -> (&[bool], &[bool])
-    ensures front { result.0.now ≡ take count kept.now }
-    ensures rest { result.1.now ≡ drop count kept.now }
-{
-    let count = count.min(kept.len());
-    (&kept[..count], &kept[count..])
-}
-
 // Whether a node can begin where the walk has walked the text, where `after` says whether what follows the node can.
 // Takes what was kept for it one byte before.
-#[cycle(walk)]
-#[tactic(auto, using(crate::proofs::Faced::facing_length), unfolding(crate::specs::Walk::peek, crate::specs::Form::form_of, crate::specs::Facing::facing_form, crate::specs::Turned::turned))]
+#[tactic(auto, unfolding(crate::specs::Walk::peek, crate::specs::Form::form_of, crate::specs::Facing::facing_form, crate::specs::Turned::turned))]
 fn peek<'k>(
     alloc: Global,
     node: &Node,
@@ -110,17 +100,16 @@ fn peek<'k>(
             })
         }
         Node::OneOrMore(inner) => peek(alloc, inner, way, text, kept, after),
-        Node::NoneOf(inner) => {
-            let (held, rest) = split_front(kept, text.len());
-            let value = refuses(alloc, inner, way, text, after, held)?;
-            Ok(Begun { value, rest })
-        }
+        // Not met: a tree with this is not walked so.
+        Node::NoneOf(_) => Ok(Begun {
+            value: false,
+            rest: kept,
+        }),
     }
 }
 
 // The same, and puts at the end of `next` what is kept for the next byte.
-#[cycle(walk)]
-#[tactic(auto, using(crate::proofs::Faced::facing_length), unfolding(crate::specs::Walk::step, crate::specs::Form::form_of, crate::specs::Facing::facing_form, crate::specs::Turned::turned))]
+#[tactic(auto, unfolding(crate::specs::Walk::step, crate::specs::Form::form_of, crate::specs::Facing::facing_form, crate::specs::Turned::turned))]
 fn step<'k>(
     alloc: Global,
     node: &Node,
@@ -191,55 +180,19 @@ fn step<'k>(
             let ahead = peek(alloc, inner, way, text, kept, false)?;
             step(alloc, inner, way, text, kept, after || ahead.value, next)
         }
-        Node::NoneOf(inner) => {
-            let (held, rest) = split_front(kept, text.len());
-            let value = refuses(alloc, inner, way, text, after, held)?;
-            next.push(after)?;
-            next.extend_from_slice(held)?;
-            Ok(Begun { value, rest })
-        }
+        // Not met: a tree with this is not walked so.
+        Node::NoneOf(_) => Ok(Begun {
+            value: false,
+            rest: kept,
+        }),
     }
-}
-
-// Whether the walked text has a front that the node does not match, where `after` and `held` say for each front whether
-// what stands behind it can follow.
-#[cycle(walk)]
-fn refuses(
-    alloc: Global,
-    node: &Node,
-    way: Way,
-    text: &[u8],
-    after: bool,
-    held: &[bool],
-) -> Result<bool, Memory>
-    ensures { IfOk result (λ value. value ≡ refused (matches (facing_form way (form_of node.now))) (after ∷ held.now) (facing way text.now)) }
-{
-    let fronts = walk(alloc, node, way.opposite(), text, Goal::End)?;
-    Ok(has_refused(fronts.as_slice(), after, held))
-}
-
-// Whether a front does not match, and what stands behind it can follow.
-fn has_refused(fronts: &[bool], after: bool, held: &[bool]) -> bool
-    ensures { result ≡ some_refused fronts.now (after ∷ held.now) }
-{
-    match fronts {
-        [first, rest @ ..] => (!*first && after) || any_refused(rest, held),
-        [] => false,
-    }
-}
-
-fn any_refused(fronts: &[bool], held: &[bool]) -> bool
-    ensures { result ≡ some_refused fronts.now held.now }
-{
-    fronts
-        .iter()
-        .zip(held)
-        .any(|(front, can_follow)| !*front && *can_follow)
 }
 
 /// Walks the whole text, and says for each place on the way, the one where the walk begins first, whether the node can
 /// begin there.
-#[cycle(walk)]
+///
+/// # Errors
+/// `Memory` where there is no room for the walk.
 pub fn walk(
     alloc: Global,
     node: &Node,
@@ -247,6 +200,24 @@ pub fn walk(
     text: &[u8],
     goal: Goal,
 ) -> Result<Vec<bool>, Memory>
+    ensures { IfOk result (λ values. values.items ≡ grown (starts (facing_form way (form_of node.now)) (holds goal)) (facing way text.now)) }
+{
+    if node.is_plain() {
+        walk_plain(alloc, node, way, text, goal)
+    } else {
+        follow(alloc, node, way, text, goal)
+    }
+}
+
+// The same for a plain node, of which it keeps for each place whether the rest can match from there.
+fn walk_plain(
+    alloc: Global,
+    node: &Node,
+    way: Way,
+    text: &[u8],
+    goal: Goal,
+) -> Result<Vec<bool>, Memory>
+    requires { is_plain (form_of node.now) ≡ true }
     ensures { IfOk result (λ values. values.items ≡ grown (starts (facing_form way (form_of node.now)) (holds goal)) (facing way text.now)) }
 {
     let mut kept = Vec::new(alloc);
@@ -268,7 +239,6 @@ pub fn walk(
 }
 
 // Walks the last byte of this part of the text.
-#[cycle(walk)]
 fn turn(
     alloc: Global,
     node: &Node,

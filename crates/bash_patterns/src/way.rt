@@ -1,5 +1,5 @@
-ghost use Rattle.std.specs.Prelude.{◌≡◌, ◌-◌, ◌≤◌, length, drop, reverse};
-ghost use Rattle.bash_patterns.specs.Facing.{facing, first_byte, holds as goal_holds, opposite};
+ghost use Rattle.std.specs.Prelude.{◌≡◌, ◌+◌, ◌-◌, ◌<◌, ◌≤◌, ◌∷◌, length, drop, reverse};
+ghost use Rattle.bash_patterns.specs.Facing.{facing, first_byte, holds as goal_holds};
 
 /// From which end a text is walked.
 #[derive(Clone, Copy, Debug, PartialEq, Eq)]
@@ -11,16 +11,6 @@ pub enum Way {
 }
 
 impl Way {
-    /// From the other end.
-    pub fn opposite(self) -> Way
-        ensures { result ≡ opposite self }
-    {
-        match self {
-            Way::Backward => Way::Forward,
-            Way::Forward => Way::Backward,
-        }
-    }
-
     /// The byte that the walk has just come to, where it has walked this text.
     pub fn first(self, text: &[u8]) -> Option<u8>
         ensures { result ≡ first_byte (facing self text.now) }
@@ -39,6 +29,17 @@ impl Way {
         match self {
             Way::Backward => &text[text.len() - count..],
             Way::Forward => &text[..count],
+        }
+    }
+
+    /// The byte that the walk comes to after so many bytes.
+    pub fn byte(self, text: &[u8], count: usize) -> u8
+        requires { count < length text.now }
+        ensures { let left = length text.now - count in drop (left - 1) (facing self text.now) ≡ result ∷ drop left (facing self text.now) }
+    {
+        match self {
+            Way::Backward => text[text.len() - 1 - count],
+            Way::Forward => text[count],
         }
     }
 }
