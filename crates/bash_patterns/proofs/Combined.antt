@@ -1,12 +1,13 @@
 -- Combinations of forms that match the same, and forms within others.
-use Rattle.std.proofs.Common.{◌≡◌, Bool, true, false, ◌&&◌, ◌||◌, not, [], ◌∷◌, refl, ap, subst, sym, ◌∙◌}
+use Rattle.std.proofs.Common.{◌≡◌, Bool, true, false, ◌&&◌, ◌||◌, not, refl, ap, sym, ◌∙◌}
 use Rattle.std.proofs.lemmas.Bool.{and_from, and_parts, or_left, or_right}
 use Rattle.eb_bytes.specs.Text.{Text}
-use Rattle.bash_patterns.specs.Form.{Form, Empty, Whatever, Both, Choice, AnyTimes, Not}
+use Rattle.bash_patterns.specs.Form.{Form, Empty, Whatever, Both, Choice, Not}
 use Rattle.bash_patterns.specs.Left.{IsSame, IsWithin}
 use Rattle.bash_patterns.specs.Matching.{matches, some_cut}
 use Rattle.bash_patterns.proofs.Cuts.{or-and, or-or, some_cut-empty, some_cut-false, some_cut-or, some_cut-same}
-use Rattle.bash_patterns.proofs.Parted.{Cut, cut_of, same_test, some_cut-from}
+use Rattle.bash_patterns.proofs.Mirrored.{or-turned}
+use Rattle.bash_patterns.proofs.Parted.{Cut, cut_of, some_cut-from}
 
 -- ---- the same
 
@@ -17,6 +18,12 @@ pub same_Choice : (p q r s u : Form) → IsSame s (Choice q r) → IsSame u (Cho
 unfolding matches
 same_Choice p q r s u h l =
     record { each = λ t. l.each t ∙ ap (λ v. matches p t || v) (h.each t) ∙ sym (or-or (matches p t) (matches q t) (matches r t)) }
+
+-- the alternatives change places, and one goes to the second
+pub same_inserted : (p q r s : Form) → IsSame s (Choice p r) → IsSame (Choice s q) (Choice p (Choice q r))
+unfolding matches
+same_inserted p q r s h =
+    record { each = λ t. ap (λ v. v || matches q t) (h.each t) ∙ or-or (matches p t) (matches r t) (matches q t) ∙ ap (λ v. matches p t || v) (or-turned (matches r t) (matches q t)) }
 
 pub same_second : (p q : Form) → IsWithin p q → IsSame q (Choice p q)
 unfolding matches
@@ -93,7 +100,6 @@ pub within_Both : (p q r s : Form) → IsWithin p q → r ≡ s → IsWithin (Bo
 unfolding matches
 within_Both p q r s h e = record { each = λ t l. on t (cut_of (λ a c. matches p a && matches r c) t l) }
   where
-
     on : (t : Text) → Cut (λ a c. matches p a && matches r c) t → some_cut (λ a c. matches q a && matches s c) t ≡ true
     on t cut =
         let passed = and_parts (matches p cut.front) (matches r cut.back) cut.passed in

@@ -8,8 +8,8 @@ use Rattle.bash_patterns.specs.Form.{Form, Empty, Single, Whatever, Both, Choice
 use Rattle.bash_patterns.specs.Left.{IsBehind, IsSame, met}
 use Rattle.bash_patterns.specs.Matching.{is_empty, matches, some_cut, repeated}
 use Rattle.bash_patterns.specs.Turned.{turned}
-use Rattle.bash_patterns.proofs.Cuts.{and-false, and-true, or-and, or-or, repeated-first, some_cut-empty, some_cut-false, some_cut-or, some_cut-same}
-use Rattle.bash_patterns.proofs.Mirrored.{matches-turned}
+use Rattle.bash_patterns.proofs.Cuts.{and-true, repeated-first, some_cut-same}
+use Rattle.bash_patterns.proofs.Mirrored.{either_test, matches-turned, or-turned}
 
 -- ---- the empty text
 
@@ -42,9 +42,6 @@ pub behind_Whatever : (w : Way) (b : ℕ) → IsBehind b (met w Whatever) Whatev
 unfolding met turned matches
 behind_Whatever Forward b = record { each = λ t. refl }
 behind_Whatever Backward b = record { each = λ t. refl }
-
-either_test : (a b c d : Bool) → a ≡ b → c ≡ d → (a || c) ≡ (b || d)
-either_test a b c d p q = cc
 
 pub left_Choice : (b : ℕ) (p q p' q' r : Form) → IsBehind b p p' → IsBehind b q q' → IsSame r (Choice p' q') → IsBehind b (Choice p q) r
 unfolding matches
@@ -91,13 +88,7 @@ left_closed b p p' q r h s e =
 
 pub left_open : (b : ℕ) (p p' q q' r s : Form) → IsBehind b p p' → IsSame r (Both p' q) → matches p [] ≡ true → IsBehind b q q' → IsSame s (Choice r q') → IsBehind b (Both p q) s
 unfolding matches
-left_open b p p' q q' r s h i e k j = record { each = λ t. j.each t ∙ either_test (matches r t) (some_cut (λ a c. matches p (b ∷ a) && matches q c) t) (matches q' t) (matches q (b ∷ t)) (i.each t ∙ sym (later-cut b p p' q h t)) (k.each t) ∙ turn (some_cut (λ a c. matches p (b ∷ a) && matches q c) t) (matches q (b ∷ t)) ∙ ap (λ v. (v && matches q (b ∷ t)) || some_cut (λ a c. matches p (b ∷ a) && matches q c) t) (sym e) }
-  where
-    turn : (x y : Bool) → (x || y) ≡ (y || x)
-    turn true true = refl
-    turn true false = refl
-    turn false true = refl
-    turn false false = refl
+left_open b p p' q q' r s h i e k j = record { each = λ t. j.each t ∙ either_test (matches r t) (some_cut (λ a c. matches p (b ∷ a) && matches q c) t) (matches q' t) (matches q (b ∷ t)) (i.each t ∙ sym (later-cut b p p' q h t)) (k.each t) ∙ or-turned (some_cut (λ a c. matches p (b ∷ a) && matches q c) t) (matches q (b ∷ t)) ∙ ap (λ v. (v && matches q (b ∷ t)) || some_cut (λ a c. matches p (b ∷ a) && matches q c) t) (sym e) }
 
 -- ---- behind a byte, of forms that a walk meets
 

@@ -1,5 +1,5 @@
 -- A walk that follows what is left of a form.
-use Rattle.std.proofs.Common.{◌≡◌, ℕ, Bool, true, ◌&&◌, ◌||◌, List, [], ◌∷◌, ◌++◌, reverse, refl, ap, subst, sym, ◌∙◌, append_assoc}
+use Rattle.std.proofs.Common.{◌≡◌, ℕ, Bool, true, ◌&&◌, List, [], ◌∷◌, ◌++◌, reverse, ap, subst, sym, ◌∙◌, append_assoc}
 use Rattle.std.proofs.lemmas.List.{append-nil, reverse-append, reverse-reverse}
 use Rattle.eb_bytes.specs.Text.{Text}
 use Rattle.bash_patterns.specs.declared.way.Way.{Way}
@@ -9,7 +9,7 @@ use Rattle.bash_patterns.specs.Facing.{facing_form, grown, holds}
 use Rattle.bash_patterns.specs.Form.{Form, Whatever, Both}
 use Rattle.bash_patterns.specs.Kept.{starts}
 use Rattle.bash_patterns.specs.Left.{IsAhead, IsBehind, met}
-use Rattle.bash_patterns.specs.Matching.{matches, some_cut}
+use Rattle.bash_patterns.specs.Matching.{matches}
 use Rattle.bash_patterns.specs.Turned.{turned}
 use Rattle.bash_patterns.proofs.Cuts.{and-true, some_cut-same}
 use Rattle.bash_patterns.proofs.Grown.{starts-whole}

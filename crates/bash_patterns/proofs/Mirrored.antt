@@ -12,7 +12,7 @@ use Rattle.bash_patterns.specs.Turned.{turned}
 use Rattle.bash_patterns.proofs.Cuts.{some_cut-same}
 use Rattle.bash_patterns.proofs.Parted.{both_made, cut_of, made_repeated, more_parts, no_parts, one_part, repeated_made, same_test, some_cut-from}
 
-or-turned : (x y : Bool) → (x || y) ≡ (y || x)
+pub or-turned : (x y : Bool) → (x || y) ≡ (y || x)
 or-turned true true = refl
 or-turned true false = refl
 or-turned false true = refl
@@ -149,7 +149,7 @@ either_end m t = same_test (some_cut (λ d e. repeated m d && m e) t) (some_cut 
 pub two_tests : (a b c d : Bool) → a ≡ b → c ≡ d → (a && c) ≡ (b && d)
 two_tests a b c d p q = cc
 
-either_test : (a b c d : Bool) → a ≡ b → c ≡ d → (a || c) ≡ (b || d)
+pub either_test : (a b c d : Bool) → a ≡ b → c ≡ d → (a || c) ≡ (b || d)
 either_test a b c d p q = cc
 
 pub matches-turned : (p : Form) (t : Text) → matches (turned p) (reverse t) ≡ matches p t

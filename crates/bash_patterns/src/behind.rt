@@ -25,7 +25,11 @@ pub fn behind_node<'n>(
 {
     match node {
         Node::Nothing => Ok(Left::Never),
-        Node::One(test) => Ok(if test.passes(byte) { Left::Nothing } else { Left::Never }),
+        Node::One(test) => Ok(if test.passes(byte) {
+            Left::Nothing
+        } else {
+            Left::Never
+        }),
         Node::AnyText => Ok(Left::Anything),
         Node::Then(first, second) => match way {
             Way::Backward => behind_both(alloc, second, first, way, byte),
@@ -74,12 +78,7 @@ fn behind_both<'n>(
 /// # Errors
 /// `Memory` where there is no room for it.
 #[tactic(auto, using(crate::proofs::Derived::left_closed, crate::proofs::Derived::left_open, crate::proofs::Derived::left_Choice, crate::proofs::Derived::left_Not, crate::proofs::Derived::left_AnyTimes, crate::proofs::Derived::left_never, crate::proofs::Derived::left_Empty, crate::proofs::Derived::left_Whatever, crate::proofs::Derived::left_Repeated), unfolding(crate::specs::Left::left_form, crate::specs::Form::form_of))]
-pub fn behind<'n>(
-    alloc: Global,
-    left: &Left<'n>,
-    way: Way,
-    byte: u8,
-) -> Result<Left<'n>, Memory>
+pub fn behind<'n>(alloc: Global, left: &Left<'n>, way: Way, byte: u8) -> Result<Left<'n>, Memory>
     ensures { IfOk result (λ rest. IsBehind byte (left_form way left.now) (left_form way rest)) }
 {
     match left {

@@ -27,11 +27,7 @@ pub fn either<'n>(alloc: Global, first: Left<'n>, second: Left<'n>) -> Result<Le
 
 // One more alternative.
 #[tactic(auto, using(crate::proofs::Combined::same_first, crate::proofs::Combined::same_second, crate::proofs::Combined::same_itself), unfolding(crate::specs::Left::left_form))]
-fn with_alternative<'n>(
-    alloc: Global,
-    part: Left<'n>,
-    rest: Left<'n>,
-) -> Result<Left<'n>, Memory>
+fn with_alternative<'n>(alloc: Global, part: Left<'n>, rest: Left<'n>) -> Result<Left<'n>, Memory>
     ensures { IfOk result (λ left. (way : Way) → IsSame (left_form way left) (Choice (left_form way part.entry) (left_form way rest.entry))) }
 {
     if part.is_within(&rest) {
@@ -40,9 +36,26 @@ fn with_alternative<'n>(
     if rest.is_within(&part) {
         return Ok(part);
     }
-    let part = Box::new(alloc, part)?;
-    let rest = Box::new(alloc, rest)?;
-    Ok(Left::Either(part, rest))
+    inserted(alloc, part, rest)
+}
+
+// One more alternative, where half of the others lie on either side: the halves change places, so that the depth grows with
+// the logarithm of their number.
+#[tactic(auto, using(crate::proofs::Combined::same_itself, crate::proofs::Combined::same_inserted), unfolding(crate::specs::Left::left_form))]
+fn inserted<'n>(alloc: Global, part: Left<'n>, rest: Left<'n>) -> Result<Left<'n>, Memory>
+    ensures { IfOk result (λ left. (way : Way) → IsSame (left_form way left) (Choice (left_form way part.entry) (left_form way rest.entry))) }
+{
+    match rest {
+        Left::Either(near, far) => {
+            let more = inserted(alloc, part, Box::into_inner(far))?;
+            Ok(Left::Either(Box::new(alloc, more)?, near))
+        }
+        _ => {
+            let part = Box::new(alloc, part)?;
+            let rest = Box::new(alloc, rest)?;
+            Ok(Left::Either(part, rest))
+        }
+    }
 }
 
 /// What is left of one tree, and another behind it. Each alternative gets it behind itself, so that equal ones are seen.

@@ -28,8 +28,8 @@ impl Node {
             Node::Nothing | Node::One(_) | Node::AnyText => true,
             Node::Then(first, second) | Node::Either(first, second) => first.is_plain()
                 && second.is_plain(),
-            Node::Optional(inner) | Node::ZeroOrMore(inner) | Node::OneOrMore(inner) => inner
-                .is_plain(),
+            Node::Optional(inner) | Node::ZeroOrMore(inner) | Node::OneOrMore(inner) =>
+                inner.is_plain(),
             Node::NoneOf(_) => false,
         }
     }

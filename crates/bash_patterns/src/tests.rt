@@ -196,6 +196,52 @@ const GROUPS: [(&str, &str, bool); 45] = [
     ("*(a|ab)*(b)c", "abab", false),
 ];
 
+// What does not match, also in what does not match, beside one another and in repeats.
+const NEGATIONS: [(&str, &str, bool); 42] = [
+    ("!(!(a)b)", "b", false),
+    ("!(!(a)b)", "ab", true),
+    ("!(!(a)b)", "a", true),
+    ("!(!(*b)c)", "abc", true),
+    ("!(!(*b)c)", "ac", false),
+    ("!(!(*b)c)", "ab", true),
+    ("!(a!(b))", "ab", true),
+    ("!(a!(b))", "abb", false),
+    ("!(!(a)!(b))", "a", false),
+    ("!(!(a)!(b))", "ba", false),
+    ("!(!(a|b)c)", "ac", true),
+    ("!(!(a|b)c)", "xc", false),
+    ("!(!(!(a)b)c)", "abc", false),
+    ("!(!(!(a)b)c)", "bc", true),
+    ("*(!(ab)c)", "abc", false),
+    ("*(!(ab)c)", "abcac", true),
+    ("+(!(a))", "a", false),
+    ("+(!(a))", "aa", true),
+    ("+(!(!(a)))", "aaa", true),
+    ("+(!(!(a)))", "aab", false),
+    ("*!(a!(b)c)d", "acd", true),
+    ("*!(a!(b)c)d", "d", true),
+    ("@(!(a)|!(b))", "a", true),
+    ("!(@(!(a)|b))", "a", true),
+    ("!(@(!(a)|b))", "b", false),
+    ("!(?(!(a)))", "a", true),
+    ("!(?(!(a)))", "", false),
+    ("!(+(!(a)))", "a", true),
+    ("a!(*(b)!(c))d", "abcd", false),
+    ("a!(*(b)!(c))d", "ad", false),
+    ("!(a)!(!(b))", "ab", false),
+    ("!(a)!(!(b))", "aa", false),
+    ("!(!([!a]))", "b", true),
+    ("!(!([!a]))", "a", false),
+    ("!(!(!(!(!(a)))))", "a", false),
+    ("!(!(!(!(!(a)))))", "b", true),
+    ("!(!(a*))", "ab", true),
+    ("!(!(a*))", "ba", false),
+    ("*(!(a|b)c)d", "accd", true),
+    ("*(!(a|b)c)d", "bcd", false),
+    ("x!(!(x)y)z", "xxyz", true),
+    ("x!(!(x)y)z", "xyz", false),
+];
+
 // What stands in groups, groups that never close, and several of them.
 const UNCLOSED_GROUPS: [(&str, &str, bool); 48] = [
     ("@(a(b)c)", "a(b)c", true),
@@ -541,6 +587,41 @@ const SEARCHES: [(bool, &str, &str, Found); 60] = [
     (false, "é", "e", (None, None, None, None, None)),
 ];
 
+const NEGATED_SEARCHES: [(&str, &str, Found); 8] = [
+    (
+        "a!(!(b)c)d",
+        "xabcdad",
+        (None, None, Some(5), Some(1), Some((1, 7))),
+    ),
+    (
+        "!(!(a)b)c",
+        "abcbc",
+        (Some(3), Some(3), Some(4), Some(4), Some((0, 3))),
+    ),
+    ("!(*b)c", "aabcab", (None, None, None, None, Some((3, 4)))),
+    (
+        "x!(a)y",
+        "zxayxy",
+        (None, None, Some(4), Some(1), Some((1, 6))),
+    ),
+    (
+        "*(!(b)c)",
+        "abcbc",
+        (Some(0), Some(5), Some(5), Some(0), Some((0, 5))),
+    ),
+    (
+        "a!(b|!(c))",
+        "abac",
+        (None, None, Some(2), Some(2), Some((2, 4))),
+    ),
+    (
+        "!(!(!(ab)))",
+        "abab",
+        (Some(0), Some(4), Some(4), Some(0), Some((0, 4))),
+    ),
+    ("b!(!(a))", "cbab", (None, None, None, None, Some((1, 3)))),
+];
+
 fn marks_of(alloc: Global, text: &str) -> Result<Marked, Memory> {
     let mut marks = Marked::new(alloc);
     let mut is_quoted = false;
@@ -605,6 +686,14 @@ fn groups_match(rt: HostRuntime) -> Result<(), Fail> {
 }
 
 #[test]
+fn negations_match(rt: HostRuntime) -> Result<(), Fail> {
+    for row in NEGATIONS {
+        assert!(rt; agrees(rt.alloc(), row, true)?, "{} {}", row.0, row.1);
+    }
+    Ok(())
+}
+
+#[test]
 fn groups_that_never_close_match(rt: HostRuntime) -> Result<(), Fail> {
     for row in UNCLOSED_GROUPS {
         assert!(rt; agrees(rt.alloc(), row, true)?, "{} {}", row.0, row.1);
@@ -626,18 +715,32 @@ fn classes_have_their_ends(rt: HostRuntime) -> Result<(), Fail> {
     Ok(())
 }
 
+// What the searches find of the pattern in the text.
+fn found(alloc: Global, pattern: &str, text: &str, extended: bool) -> Result<Found, Fail> {
+    let compiled = pattern_of(alloc, pattern, extended)?;
+    let text = text.as_bytes();
+    Ok((
+        compiled.shortest_prefix(text)?,
+        compiled.longest_prefix(text)?,
+        compiled.shortest_suffix(text)?,
+        compiled.longest_suffix(text)?,
+        compiled.first_match(text, 0)?,
+    ))
+}
+
 #[test]
 fn searches_find_their_places(rt: HostRuntime) -> Result<(), Fail> {
     for (extended, pattern, text, places) in SEARCHES {
-        let compiled = pattern_of(rt.alloc(), pattern, extended)?;
-        let text = text.as_bytes();
-        let found = (
-            compiled.shortest_prefix(text)?,
-            compiled.longest_prefix(text)?,
-            compiled.shortest_suffix(text)?,
-            compiled.longest_suffix(text)?,
-            compiled.first_match(text, 0)?,
-        );
+        let found = found(rt.alloc(), pattern, text, extended)?;
+        assert_eq!(rt; found, places, "{pattern}");
+    }
+    Ok(())
+}
+
+#[test]
+fn searches_find_negations(rt: HostRuntime) -> Result<(), Fail> {
+    for (pattern, text, places) in NEGATED_SEARCHES {
+        let found = found(rt.alloc(), pattern, text, true)?;
         assert_eq!(rt; found, places, "{pattern}");
     }
     Ok(())

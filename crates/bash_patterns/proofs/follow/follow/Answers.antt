@@ -1,4 +1,4 @@
-use Rattle.std.proofs.Common.{ℕ, ◌≡◌, ◌+◌, ◌-◌, ◌∙◌, ap, arith, drop, length}
+use Rattle.std.proofs.Common.{◌≡◌, ◌+◌, ◌-◌, ◌∙◌, ap, arith, drop, length}
 use Rattle.std.proofs.lemmas.List.{drop_all}
 use Rattle.bash_patterns.specs.Facing.{facing, facing_form, holds}
 use Rattle.bash_patterns.specs.Form.{form_of}
