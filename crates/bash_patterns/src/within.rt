@@ -22,7 +22,7 @@ impl<'n> Left<'n> {
         }
     }
 
-    // The same of two that have no alternatives.
+    // The same of two that have no alternatives. What is left is compared before the trees behind it, which are larger.
     #[cycle(within)]
     #[tactic(auto, using(crate::proofs::Combined::within_never, crate::proofs::Combined::within_all, crate::proofs::Combined::within_itself, crate::proofs::Combined::within_Choice, crate::proofs::Combined::within_first, crate::proofs::Combined::within_second, crate::proofs::Combined::within_Both, crate::proofs::Combined::within_Not), unfolding(crate::specs::Left::left_form))]
     fn is_part(&self, other: &Left<'n>) -> bool
@@ -31,10 +31,11 @@ impl<'n> Left<'n> {
         match (self, other) {
             (Left::Nothing, Left::Nothing) => true,
             (Left::Whole(node), Left::Whole(another)) => node.is_same(another),
-            (Left::Then(first, node), Left::Then(second, another)) => node.is_same(another)
-                && first.is_within(second),
-            (Left::Repeated(first, node), Left::Repeated(second, another)) => node.is_same(another)
-                && first.is_within(second),
+            (Left::Then(first, node), Left::Then(second, another)) => first.is_within(second)
+                && node.is_same(another),
+            (Left::Repeated(first, node), Left::Repeated(second, another)) => first.is_within(
+                second,
+            ) && node.is_same(another),
             (Left::NoneOf(inner), Left::NoneOf(another)) => another.is_within(inner),
             _ => false,
         }
