@@ -2,34 +2,34 @@
 """Usage: patterns.py [PROGRAM [RUNS]]
 
 Times patterns on texts of SIZE bytes and of twice that, as probe_times.py says. A request makes eight walks over the
-text: one for `matches`, one for each of four searches, two for the first match, and what is left of it for the third. A
-pattern with `!(..)` takes up to the square of its text: those texts have the size divided by SQUARE. Ends with 1 where
-an answer is wrong.
+text: one for `matches`, one for each of four searches, two for the first match, and what is left of it for the third.
+Ends with 1 where an answer is wrong.
 """
 import sys
 
 from probe_times import hexadecimal, time_requests
 
 SIZE = 1 << 20
-SQUARE = 1 << 9
 
 
-def cases(size, square):
+def cases(n):
     """The name of each case, its pattern, its text, and the answer"""
-    n = size
-    yield "*a*a*b", b"*a*a*b", b"a" * n, "no none none none none none"
-    yield "*(a|ab)*(b)c", b"*(a|ab)*(b)c", b"ab" * (n // 2), "no none none none none none"
+    yield "*a*a*b", b"*a*a*b", b"a" * n, b"no none none none none none"
+    yield "*(a|ab)*(b)c", b"*(a|ab)*(b)c", b"ab" * (n // 2), b"no none none none none none"
     yield "*(a|ab)*(b)c, found", b"*(a|ab)*(b)c", b"ab" * (n // 2 - 1) + b"bc", f"yes {n} {n} {n - 1} 0 0-{n}".encode()
-    yield "*(*(*(a)))b", b"*(*(*(a)))b", b"a" * n, "no none none none none none"
-    yield "[!a]", b"[!a]", b"a" * n, "no none none none none none"
-    n = square
-    yield "!(*b)c", b"!(*b)c", b"a" * n, "no none none none none none"
+    yield "*(*(*(a)))b", b"*(*(*(a)))b", b"a" * n, b"no none none none none none"
+    yield "[!a]", b"[!a]", b"a" * n, b"no none none none none none"
+    yield "!(*b)c", b"!(*b)c", b"a" * n, b"no none none none none none"
     yield "!(a*b)", b"!(a*b)", b"a" * n, f"yes 0 {n} {n} 0 0-{n}".encode()
+    yield "!(!(a))", b"!(!(a))", b"a" * n, f"no 1 1 {n - 1} {n - 1} 0-1".encode()
+    yield "*!(a!(b)c)d", b"*!(a!(b)c)d", b"acbd" * (n // 4), f"yes 4 {n} {n - 1} 0 0-{n}".encode()
+    yield "*(!(a|b)c)d", b"*(!(a|b)c)d", (b"abc" * n)[:n], b"no none none none none none"
+    yield "!(*a??????????)b", b"!(*a??????????)b", b"ab" * (n // 2), f"no 2 10 {n - 1} {n - 11} 0-10".encode()
 
 
 def requests(size):
     """The name of each case, its request, and the answer"""
-    for name, pattern, text, answer in cases(size, size // SQUARE):
+    for name, pattern, text, answer in cases(size):
         marks = b",".join(b"L%02x" % byte for byte in pattern)
         yield f"{name} ({len(text)})", b" ".join((b"match", b"1", marks, hexadecimal(text))), answer
 
