@@ -1,3 +1,4 @@
+pub mod FunctionNames
 pub mod Opened
 mod Rows
 mod RowsNesting

@@ -1,9 +1,10 @@
 -- The function table: the functions of a script in the order in which their names were first defined, and the tables
 -- that open subshells saved.
-use Rattle.std.specs.Prelude.{List, [], ◌∷◌, ◌++◌, Option, Bool, nat_eq}
+use Rattle.std.specs.Prelude.{ℕ, List, [], ◌∷◌, ◌++◌, Option, Bool, map, nat_eq}
 use Rattle.std.specs.Cmp.Lexicographic.{pointwise}
 use Rattle.std.specs.Map.{lookup, remove_entry, keys_of}
 use Rattle.std.specs.List.{IsDistinct}
+use Rattle.std.specs.declared.vec.Vec.{Vec}
 use Rattle.indexmap.specs.IndexMap.{insert_entry}
 use Rattle.eb_bytes.specs.Text.{Text}
 use Rattle.eb_syntax.specs.declared.tree.Command.{Command}
@@ -11,6 +12,10 @@ use Rattle.eb_syntax.specs.declared.tree.Command.{Command}
 -- Names with their bodies.
 abbrev pub Table : Type 0
 Table = List (Text × Command)
+
+-- The names and bodies that a map with the names as keys has, in the map's order.
+abbrev pub names_as_bytes : {Alloc : Type 0} → List (Vec ℕ Alloc × Command) → Table
+names_as_bytes entries = map (λ entry. (entry.0.items, entry.1)) entries
 
 -- Whether two names are the same bytes.
 abbrev pub is_name : Text → Text → Bool

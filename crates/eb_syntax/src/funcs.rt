@@ -2,119 +2,25 @@
 
 ghost use Rattle.std.specs.Prelude.{◌≡◌, ◌≢◌, [], ◌∷◌, ◌++◌, is_some, IfOk, OnOk, OnErr};
 ghost use Rattle.std.specs.Option.{option_copied};
-ghost use Rattle.eb_syntax.specs.Funcs.{body_of, with_body, without, no_tables, now_present, once_open, HasDistinctNames};
+ghost use Rattle.eb_syntax.specs.Funcs.{body_of, with_body, without, HasDistinctNames};
+ghost use Rattle.eb_syntax.specs.Funcs.{no_tables, now_present, once_open};
 
 use crate::Command;
-use eb_bytes::{Bytes, Memory};
-use indexmap::{Equivalent, IndexMap};
+use eb_bytes::Memory;
+use indexmap::IndexMap;
 use shared::Shared;
-use std::alloc::{AllocError, Global};
-use std::hash::{Hash, Hasher};
+use std::alloc::Global;
 use std::marker::Model;
-
-/// A function's name, which the tables that have the function share. Contracts see it as its bytes.
-#[doc(hidden)]
-#[derive(Drop)]
-pub struct FuncName {
-    bytes: Shared<Bytes>,
-}
-
-impl Model for FuncName {
-    ghost use Rattle.eb_bytes.specs.Text.{Text};
-
-    ghost Value = { Text };
-
-    ghost view = { λ name. name.bytes };
-}
-
-impl FuncName {
-    fn new(alloc: Global, bytes: &[u8]) -> Result<FuncName, Memory>
-        ensures { IfOk result (λ name. name ≡ bytes.now) }
-    {
-        let bytes = Bytes::from_slice(alloc, bytes)?;
-        Ok(FuncName {
-            bytes: Shared::new(alloc, bytes)?,
-        })
-    }
-
-    fn as_slice(&self) -> &[u8]
-        ensures { result.now ≡ self.now }
-    {
-        self.bytes.get().as_slice()
-    }
-}
-
-impl PartialEq for FuncName {
-    ghost use Rattle.eb_syntax.specs.Funcs.{is_name};
-    ghost use Rattle.std.proofs.Common.{rules};
-    ghost use Rattle.std.specs.Cmp.Rules.{comparing};
-
-    ghost eq = { is_name };
-
-    ghost laws = { Prim.search (comparing, rules) };
-
-    fn eq(&self, other: &FuncName) -> bool {
-        self.as_slice() == other.as_slice()
-    }
-}
-
-impl Eq for FuncName {
-    ghost use Rattle.std.proofs.Common.{rules};
-    ghost use Rattle.std.specs.Cmp.Rules.{comparing};
-
-    ghost laws = { Prim.search (comparing, rules) };
-}
-
-impl Hash for FuncName {
-    ghost use Rattle.std.specs.Hash as fed;
-    ghost use Rattle.std.proofs.Common.{rules};
-    ghost use Rattle.std.specs.Cmp.Rules.{hashing};
-
-    ghost hash_input = { fed.slice fed.u8 };
-
-    ghost respects_eq = { Prim.search (hashing, rules) };
-
-    fn hash<H: Hasher>(&self, state: &mut H) {
-        self.as_slice().hash(state);
-    }
-}
-
-impl Clone for FuncName {
-    ghost is_clone = { λ name another. another ≡ name };
-
-    fn clone(&self) -> Result<FuncName, AllocError> {
-        Ok(FuncName {
-            bytes: self.bytes.share()?,
-        })
-    }
-}
-
-impl Equivalent<FuncName> for &[u8] {
-    ghost use Rattle.eb_syntax.specs.Funcs.{is_name};
-    ghost use Rattle.std.proofs.Common.{ap};
-    ghost use Rattle.std.specs.Cmp.Lexicographic.{bytes_decides, nat_list_eq_equiv};
-    ghost use Rattle.std.specs.Hash as fed;
-
-    ghost equivalent = { λ query name. is_name query.now name };
-
-    ghost respects_hash = { λ query name same. ap (fed.slice fed.u8) ((bytes_decides query.now name).0 same) };
-
-    ghost respects_eq = { λ query name other. nat_list_eq_equiv.congr query.now name other };
-
-    fn equivalent(&self, key: &FuncName) -> bool {
-        *self == key.as_slice()
-    }
-}
 
 /// Functions by name, in order of definition. Contracts see it as a list of names and bodies.
 #[doc(hidden)]
 #[derive(Drop)]
 pub struct FuncTable {
-    entries: IndexMap<FuncName, Shared<Command>>,
+    entries: IndexMap<Vec<u8>, Shared<Command>>,
 }
 
 impl Model for FuncTable {
-    ghost use Rattle.eb_syntax.specs.Funcs.{Table};
+    ghost use Rattle.eb_syntax.specs.Funcs.{Table, names_as_bytes};
     ghost use Rattle.eb_syntax.specs.contracts.tree.Command as command;
     ghost use Rattle.std.specs.Coded.{codes};
 
@@ -122,7 +28,7 @@ impl Model for FuncTable {
 
     ghost coded = { Prim.hlevel (codes, command.the_row.coded) };
 
-    ghost view = { λ table. table.entries.entries };
+    ghost view = { λ table. names_as_bytes table.entries.entries };
 }
 
 impl FuncTable {
@@ -145,7 +51,7 @@ impl FuncTable {
         ensures err { OnErr result (self.new ≡ self.old) }
         ensures distinct { OnOk result (HasDistinctNames self.new) }
     {
-        let name = FuncName::new(*self.entries.allocator(), name)?;
+        let name = Vec::from_slice(*self.entries.allocator(), name)?;
         let _ = self.entries.insert(name, body)?;
         Ok(())
     }

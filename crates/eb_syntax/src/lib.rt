@@ -12,9 +12,9 @@ mod tests;
 mod tree;
 
 pub use class::Class;
-pub use funcs::Funcs;
 #[doc(hidden)]
-pub use funcs::{FuncName, FuncTable};
+pub use funcs::FuncTable;
+pub use funcs::Funcs;
 pub use laws::{
     alternatives_share_their_beginning, items_own_their_marks, newline_answers_each_mark,
     readings_take_bytes, redirection_holds_its_body, repetition_needs_no_bound,
