@@ -1,0 +1,6 @@
+pub mod Code
+pub mod Constants
+pub mod Expression
+pub mod Names
+pub mod Reading
+pub mod Symbols

@@ -1,0 +1,11 @@
+//! The reading of arithmetic expressions (Bash Reference Manual, "Shell Arithmetic"), and the instructions that stand
+//! for what was read.
+#![tactic(auto)]
+
+mod instruction;
+mod operator;
+mod reader;
+
+pub use instruction::{Instruction, Place};
+pub use operator::{Direction, Joint, Operator, Sign, Symbol, When};
+pub use reader::{ReadErr, Refusal, read};
