@@ -3,6 +3,7 @@
 #![tactic(auto)]
 
 mod instruction;
+mod name;
 mod operator;
 mod reader;
 

@@ -1,0 +1,15 @@
+use Rattle.std.proofs.Common.{◌∙◌, rules, tests}
+use Rattle.std.proofs.lemmas.List.{take_rest}
+use Rattle.std.proofs.lemmas.Iterator.{YieldsList-from_slice}
+use Rattle.std.proofs.lemmas.Iterator.Consumers.{count_from_yields_List}
+use Rattle.std.proofs.lemmas.Iterator.Search.{YieldsList-from_take_while}
+use Rattle.std.proofs.lemmas.List.Folds.{length-prefix_len}
+use Rattle.eb_bytes.specs.Text.{is_space}
+use Rattle.arith_syntax.specs.Names.{after_blanks}
+use Rattle.arith_syntax.proofs.name.after_blanks.Goals as goal
+
+pub returns : goal.returns
+unfolding after_blanks
+returns c =
+    let count = count_from_yields_List c.take_while.result _ c.count-count.ensures.ran (YieldsList-from_take_while _ is_space (YieldsList-from_slice c.args.text.now (cc)) c.take_while.ensures.closure c.take_while.ensures.done (λ x b q k. search (rules, tests))) ∙ length-prefix_len is_space c.args.text.now in
+    rw (take_rest, count)
