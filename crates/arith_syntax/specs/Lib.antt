@@ -4,3 +4,4 @@ pub mod Expression
 pub mod Names
 pub mod Reading
 pub mod Symbols
+pub mod Tails

@@ -1,5 +1,5 @@
 -- The operators of an expression (Bash Reference Manual, "Shell Arithmetic").
-use Rattle.std.specs.Prelude.{ℕ, Bool, nat_eq, List, [], ◌∷◌, length, drop, Option, Some, None, if◌then◌else◌, codes}
+use Rattle.std.specs.Prelude.{ℕ, nat_eq, List, [], ◌∷◌, length, drop, Option, Some, None, if◌then◌else◌, codes}
 use Rattle.std.specs.List.{starts_with}
 use Rattle.eb_bytes.specs.Text.{Text}
 use Rattle.arith_syntax.specs.declared.operator.Operator.{Operator}
@@ -52,9 +52,9 @@ symbols =
     ∷ (codes "**", symbol.Power) ∷ (codes "*=", assigning Multiply) ∷ (codes "/=", assigning Divide)
     ∷ (codes "%=", assigning Remainder) ∷ (codes "+=", assigning Add) ∷ (codes "-=", assigning Subtract)
     ∷ (codes "&=", assigning BitAnd) ∷ (codes "^=", assigning BitXor) ∷ (codes "|=", assigning BitOr)
-    ∷ (codes "||", symbol.Joint Or) ∷ (codes "&&", symbol.Joint And) ∷ (codes "==", both Equal)
-    ∷ (codes "!=", both NotEqual) ∷ (codes "<=", both LessOrEqual) ∷ (codes ">=", both GreaterOrEqual)
-    ∷ (codes "<<", both ShiftLeft) ∷ (codes ">>", both ShiftRight)
+    ∷ (codes "||", symbol.Joint Or) ∷ (codes "&&", symbol.Joint And) ∷ (codes "<<", both ShiftLeft)
+    ∷ (codes ">>", both ShiftRight) ∷ (codes "==", both Equal) ∷ (codes "!=", both NotEqual)
+    ∷ (codes "<=", both LessOrEqual) ∷ (codes ">=", both GreaterOrEqual)
     ∷ (codes "*", both Multiply) ∷ (codes "/", both Divide) ∷ (codes "%", both Remainder)
     ∷ (codes "+", both Add) ∷ (codes "-", both Subtract) ∷ (codes "<", both Less) ∷ (codes ">", both Greater)
     ∷ (codes "&", both BitAnd) ∷ (codes "^", both BitXor) ∷ (codes "|", both BitOr)

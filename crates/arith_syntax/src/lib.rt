@@ -6,6 +6,7 @@ mod instruction;
 mod name;
 mod operator;
 mod reader;
+mod symbol;
 
 pub use instruction::{Instruction, Place};
 pub use operator::{Direction, Joint, Operator, Sign, Symbol, When};
