@@ -1,5 +1,5 @@
 -- Constants (Bash Reference Manual, "Shell Arithmetic": octal, hexadecimal and `base#n`).
-use Rattle.std.specs.Prelude.{ℕ, ℤ, pos, ◌+◌, ◌-◌, ◌*◌, Bool, true, false, ◌==◌, ◌||◌, ◌&&◌, not, nat_le, nat_lt, nat_eq, [], ◌∷◌, take, drop, Option, Some, None, if◌then◌else◌, codes}
+use Rattle.std.specs.Prelude.{ℕ, ℤ, pos, ◌+◌, ◌-◌, ◌*◌, ◌%◌, ◌^◌, Bool, ◌==◌, ◌||◌, ◌&&◌, not, nat_le, nat_lt, nat_eq, [], ◌∷◌, take, drop, Option, Some, None, if◌then◌else◌, codes}
 use Rattle.std.specs.Int.{int_wrap, w64}
 use Rattle.std.specs.List.{prefix_len, list_any, starts_with}
 use Rattle.std.specs.Option.{option_map, option_and_then}
@@ -39,6 +39,9 @@ digits base (b ∷ t) = digits_behind base 0 (b ∷ t)
 abbrev pub is_base : ℕ → Option ℕ
 is_base n = if nat_le 2 n && nat_le n 64 then Some n else None
 
+abbrev pub at_most_64 : ℕ → Option ℕ
+at_most_64 n = if nat_le n 64 then Some n else None
+
 -- a base is a decimal number from 2 to 64 that does not begin with 0
 abbrev pub base_of : Text → Option ℕ
 base_of [] = None
@@ -63,12 +66,19 @@ is_hexadecimal w = starts_with nat_eq w (codes "0x") || starts_with nat_eq w (co
 abbrev pub is_octal : Text → Bool
 is_octal w = starts_with nat_eq w (codes "0")
 
+-- what a constant without `#` writes
+abbrev pub plain : Text → Option ℕ
+plain w =
+    if is_hexadecimal w then digits 16 (drop 2 w)
+    else (if is_octal w then digits 8 w else digits 10 w)
+
 -- what a constant writes: of any length, and none where it is not well formed
 unfoldable pub written : Text → Option ℕ
-written w =
-    if list_any is_hash w then based w
-    else (if is_hexadecimal w then digits 16 (drop 2 w)
-    else (if is_octal w then digits 8 w else digits 10 w))
+written w = if list_any is_hash w then based w else plain w
+
+-- the lowest 64 bits of a number
+abbrev pub low : ℕ → ℕ
+low n = n % 2 ^ 64
 
 -- numbers have 64 bits, and a greater one wraps
 abbrev pub wrapped : ℕ → ℤ

@@ -2,6 +2,7 @@
 //! for what was read.
 #![tactic(auto)]
 
+mod constant;
 mod instruction;
 mod name;
 mod operator;
