@@ -8,6 +8,8 @@ mod name;
 mod operator;
 mod reader;
 mod symbol;
+#[cfg(test)]
+mod tests;
 
 pub use instruction::{Instruction, Place};
 pub use operator::{Direction, Joint, Operator, Sign, Symbol, When};
