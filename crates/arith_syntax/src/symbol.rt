@@ -37,11 +37,10 @@ pub(crate) fn step_before(text: &[u8]) -> Option<(Direction, &[u8])>
 {
     let (direction, rest) = step_behind(text)?;
     let name = after_blanks(rest);
-    if begins_name(name) {
-        Some((direction, name))
-    } else {
-        None
+    if !begins_name(name) {
+        return None;
     }
+    Some((direction, name))
 }
 
 /// The step behind a variable that the text begins with, blanks aside, and what stands behind it.

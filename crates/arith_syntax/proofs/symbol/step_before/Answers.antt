@@ -17,10 +17,10 @@ decided : (t : Text) (d : Direction) (rest name : Text) (begins : Bool) → Some
 unfolding step_before step_behind
 decided t d rest name begins behind is test = rw (test, is) (ap before_name behind)
 
-pub returns-then-begins_name : goal.returns-then-begins_name
-returns-then-begins_name c =
-    decided c.args.text.now c.in_ok-direction.direction c.in_ok-direction.rest.now _ true c.in_ok-direction.ensures c.after_blanks-name.ensures c.if-begins_name.ensures
+pub returns-then-not-begins_name : goal.returns-then-not-begins_name
+returns-then-not-begins_name c =
+    decided c.args.text.now c.in_ok-direction.direction c.in_ok-direction.rest.now c.after_blanks-name.result.now false c.in_ok-direction.ensures c.after_blanks-name.ensures c.if-not-begins_name.ensures
 
-pub returns-else-begins_name : goal.returns-else-begins_name
-returns-else-begins_name c =
-    decided c.args.text.now c.in_ok-direction.direction c.in_ok-direction.rest.now c.after_blanks-name.result.now false c.in_ok-direction.ensures c.after_blanks-name.ensures c.if-begins_name.ensures
+pub returns : goal.returns
+returns c =
+    decided c.args.text.now c.in_ok-direction.direction c.in_ok-direction.rest.now _ true c.in_ok-direction.ensures c.after_blanks-name.ensures c.if-not-begins_name.ensures
