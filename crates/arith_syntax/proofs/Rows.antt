@@ -1,10 +1,10 @@
 -- What the definition reads in small texts.
-use Rattle.std.proofs.Common.{◌≡◌, ℕ, ℤ, pos, Bool, true, false, List, [], ◌∷◌, Option, Some, None, Result, Ok, Err, refl, codes, map}
+use Rattle.std.proofs.Common.{◌≡◌, ℕ, pos, List, [], ◌∷◌, Some, None, Result, Ok, Err, refl, codes, map}
 use Prim.Native.String.{String}
 use Rattle.arith_syntax.specs.declared.operator.Operator.{Operator}
 use Rattle.arith_syntax.specs.declared.operator.Operator.TheVariants.{Add, Subtract, Multiply, Less, ShiftLeft, BitAnd, BitOr, Equal}
 use Rattle.arith_syntax.specs.declared.operator.Joint.TheVariants.{Comma, Or, And, Both}
-use Rattle.arith_syntax.specs.declared.operator.Sign.TheVariants.{Minus, Plus, Not, Complement}
+use Rattle.arith_syntax.specs.declared.operator.Sign.TheVariants.{Minus, Not, Complement}
 use Rattle.arith_syntax.specs.declared.operator.Direction.TheVariants.{Up, Down}
 use Rattle.arith_syntax.specs.declared.operator.When.TheVariants.{Later, First}
 use Rattle.arith_syntax.specs.declared.reader.Refusal.{Refusal}

@@ -1,5 +1,5 @@
 -- Expressions as trees.
-use Rattle.std.specs.Prelude.{ℤ, Bool, true, false, Option}
+use Rattle.std.specs.Prelude.{ℤ, Option}
 use Rattle.eb_bytes.specs.Text.{Text}
 use Rattle.arith_syntax.specs.declared.operator.Operator.{Operator}
 use Rattle.arith_syntax.specs.declared.operator.Joint.{Joint}

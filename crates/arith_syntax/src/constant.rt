@@ -1,7 +1,6 @@
-ghost use Rattle.std.specs.Prelude.{◌≡◌, ◌<◌, ◌≤◌, ◌^◌, take, drop, not, position, Option, Some, None};
-ghost use Rattle.std.specs.List.{prefix_len};
+ghost use Rattle.std.specs.Prelude.{◌≡◌, take, drop, position};
 ghost use Rattle.std.specs.Option.{option_and_then, option_map};
-ghost use Rattle.arith_syntax.specs.Constants.{at_most_64, base_of, before_hash, constant_len, constant_of, digit_of, digit_value, digits, digits_behind, is_constant_byte as constant_byte, is_hash, low, plain, written};
+ghost use Rattle.arith_syntax.specs.Constants.{at_most_64, base_of, constant_len, constant_of, digit_of, digit_value, digits, digits_behind, is_constant_byte as constant_byte, is_hash, low, plain, written};
 
 use crate::name::is_name_byte;
 

@@ -1,5 +1,4 @@
-ghost use Rattle.std.specs.Prelude.{◌≡◌, filter, not, IfOk};
-ghost use Rattle.std.specs.List.{prefix_len};
+ghost use Rattle.std.specs.Prelude.{◌≡◌, IfOk};
 ghost use Rattle.std.specs.Option.{option_map};
 ghost use Rattle.eb_bytes.specs.Text.{is_space as space_byte};
 ghost use Rattle.arith_syntax.specs.Names.{after_blanks, begins_name, is_name_byte as name_byte, is_name_start as name_start, name_at, name_len, without_quotes};
