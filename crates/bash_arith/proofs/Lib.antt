@@ -1,0 +1,4 @@
+mod Compiled
+mod Left
+mod Powers
+mod Single

@@ -1,0 +1,5 @@
+pub mod Machine
+pub mod Numbers
+pub mod Outcome
+pub mod Value
+pub mod Variables

@@ -1,0 +1,9 @@
+//! Arithmetic expressions over shell variables (Bash Reference Manual, "Shell Arithmetic").
+#![tactic(auto)]
+
+mod error;
+mod number;
+mod stack;
+mod variable;
+
+pub use error::ArithErr;
