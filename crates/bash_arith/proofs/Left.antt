@@ -15,7 +15,7 @@ use Rattle.arith_syntax.specs.Expression.{Expression, Variable, Named, Element, 
 use Rattle.arith_syntax.specs.Reading.{expression}
 use Rattle.arith_syntax.specs.Code.{Code}
 use Rattle.bash_arith.specs.declared.error.ArithErr.{ArithErr}
-use Rattle.bash_arith.specs.Machine.{Stack, below, executed, run, subscript, text_of, top, without_subscript}
+use Rattle.bash_arith.specs.Machine.{NextFalls, Stack, below, executed, run, subscript, text_of, top, without_subscript}
 use Rattle.bash_arith.specs.Numbers.{is_zero, truth, operated, signed, raised, stepped}
 use Rattle.bash_arith.specs.Outcome.{State, Outcome, Ended, Faulted, and_then, left_of, paid_from}
 use Rattle.bash_arith.specs.Value.{Levels, Evaluation, Use, answered, assign, chosen, evaluate, inside, joined, levels_of, read_value, step, step_value, used, valued}
@@ -66,8 +66,8 @@ answered_falls (Err e) s = self s.left
 
 step_falls : (ev : Text → Evaluation) → ((t : Text) → Falls (ev t)) → (w : When) (d : Direction) (x : Text) (at : Option ℤ) → Falls (step ev w d x at)
 step_falls ev h w d x at s =
-    then_falls (fetched ev x at s) (λ n u. and_then (stored x at (stepped d n) u) (λ m v. Ended (step_value ev w n m) v)) s.left (fetched_falls ev h x at s)
-      (λ n u. then_falls (stored x at (stepped d n) u) (λ m v. Ended (step_value ev w n m) v) u.left (stored_falls x at (stepped d n) u) (λ m v. self v.left))
+    then_falls (fetched ev x at s) (λ n u. and_then (stored x at (stepped d n) u) (λ m v. Ended (step_value w n m) v)) s.left (fetched_falls ev h x at s)
+      (λ n u. then_falls (stored x at (stepped d n) u) (λ m v. Ended (step_value w n m) v) u.left (stored_falls x at (stepped d n) u) (λ m v. self v.left))
 
 joined_falls : (j : Joint) (l : ℤ) (right : Evaluation) → Falls right → Falls (joined j l right)
 joined_falls Comma l right h s = h s
@@ -132,9 +132,6 @@ levels_fall (suc n) = ((λ t s. read_falls (levels_of n) (levels_fall n) (expres
 
 text_of_falls : (n : ℕ) (t : Text) → Falls (evaluate (levels_of n) t)
 text_of_falls n t s = evaluate_falls (levels_of n) (levels_fall n) t s
-
-abbrev NextFalls : (ℕ → Stack → Evaluation) → Type 0
-NextFalls next = (k : ℕ) (stack : Stack) → Falls (next k stack)
 
 module _ (n : ℕ) where
   executed_falls : (c : Instruction) (stack : Stack) (next : ℕ → Stack → Evaluation) → NextFalls next → (s : State) → left_of (executed n c stack s next) ≤ s.left

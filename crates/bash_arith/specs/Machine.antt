@@ -1,13 +1,17 @@
 -- What instructions make of a stack of numbers.
-use Rattle.std.specs.Prelude.{ℕ, zero, suc, ℤ, pos, Bool, true, false, not, min, List, [], ◌∷◌, Option, Some, None, Result, Ok, Err, if◌then◌else◌}
+use Rattle.std.specs.Prelude.{◌≡◌, ◌≤◌, ℕ, zero, suc, ℤ, pos, Bool, not, min, List, [], ◌∷◌, Option, Some, None, Result, Ok, Err, if◌then◌else◌}
 use Rattle.eb_bytes.specs.Text.{Text}
 use Rattle.arith_syntax.specs.declared.instruction.Instruction.{Instruction}
 use Rattle.arith_syntax.specs.declared.instruction.Instruction.TheVariants as i
 use Rattle.arith_syntax.specs.declared.instruction.Place.{Place}
+use Rattle.arith_syntax.specs.declared.reader.ReadErr.{ReadErr}
+use Rattle.arith_syntax.specs.declared.reader.ReadErr.TheVariants as read
 use Rattle.arith_syntax.specs.Code.{Code}
 use Rattle.bash_arith.specs.Numbers.{is_zero, truth, operated, signed, raised}
-use Rattle.bash_arith.specs.Outcome.{State, Outcome, Ended, and_then}
-use Rattle.bash_arith.specs.Value.{answered, evaluate, levels_of, step}
+use Rattle.bash_arith.specs.declared.error.ArithErr.{ArithErr}
+use Rattle.bash_arith.specs.declared.error.ArithErr.TheVariants as e
+use Rattle.bash_arith.specs.Outcome.{State, Outcome, Ended, Faulted, and_then, left_of}
+use Rattle.bash_arith.specs.Value.{answered, evaluate, fault_of, levels_of, step}
 use Rattle.bash_arith.specs.Variables.{fetched, stored}
 
 abbrev pub Stack : Type 0
@@ -67,3 +71,19 @@ module _ (n : ℕ) where
   run [] k stack s = Ended (top stack) s
   run (c ∷ code) (suc k) stack s = run code k stack s
   run (c ∷ code) zero stack s = executed c stack s (λ k more u. run code k more u)
+
+-- what goes on leaves no more steps than there were
+abbrev pub NextFalls : Next → Type 0
+NextFalls next = (k : ℕ) (stack : Stack) (s : State) → left_of (next k stack s) ≤ s.left
+
+-- an instruction was executed: what goes on behind it does so with this stack and state; so it does not after a fault, and where
+-- memory is wanted, at most its steps are used
+abbrev pub Continues : Result ℕ ArithErr → (Next → Outcome) → Stack → State → Type 0
+Continues (Ok k) done stack s = (next : Next) → done next ≡ next k stack s
+Continues (Err e.Memory) done stack s = (next : Next) → NextFalls next → left_of (done next) ≤ s.left
+Continues (Err fault) done stack s = (next : Next) → done next ≡ Faulted fault s
+
+-- the fault of a text that cannot be read
+abbrev pub fault_of_error : ReadErr → ArithErr
+fault_of_error (read.Refused refusal) = fault_of refusal
+fault_of_error read.Memory = e.Memory

@@ -1,6 +1,7 @@
 -- What an evaluation acts on, and how it ends.
 use Rattle.std.specs.Prelude.{◌≡◌, ℕ, zero, suc, ◌-◌, ◌≤◌, ℤ, Result, Ok, Err}
 use Rattle.eb_bytes.specs.Spending.{Spending}
+use Rattle.eb_bytes.specs.Text.{Text}
 use Rattle.shell_vars.specs.Store.{Store}
 use Rattle.shell_vars.specs.Stores.{Refuses, Stores}
 use Rattle.shell_vars.specs.declared.error.VarErr.{VarErr}
@@ -51,3 +52,14 @@ Tells (Err fault) outcome s = outcome ≡ Faulted fault s
 abbrev pub Answers : {T : Type 0} → Result T VarErr → Result T VarErr → Type 0
 Answers (Ok x) given = given ≡ Ok x
 Answers (Err refused) given = Refuses refused given
+
+-- the fault of a variable that could not be read or changed
+abbrev pub IsVar : ArithErr → Text → VarErr → Type 0
+IsVar (e.Var x refused) name given = (x ≡ name) × (refused ≡ given)
+IsVar e.Memory name given = Unit {0}
+IsVar fault name given = ⊥
+
+-- a step was spent, or none was left
+abbrev pub Pays : Result (Unit {0}) ArithErr → Spending → Spending → Type 0
+Pays (Ok done) old new = left old ≡ suc (left new)
+Pays (Err fault) old new = (fault ≡ e.Spent) × (left old ≡ 0) × (left new ≡ 0)

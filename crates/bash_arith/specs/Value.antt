@@ -35,13 +35,13 @@ joined (Both o) l right s = and_then (right s) (λ r u. answered (operated o l r
 abbrev pub chosen : ℤ → Evaluation → Evaluation → State → Outcome
 chosen c a b s = if is_zero c then b s else a s
 
+-- the number before the step, or the one behind it
+abbrev pub step_value : When → ℤ → ℤ → ℤ
+step_value Later before behind = before
+step_value First before behind = behind
+
 -- `evaluate` evaluates a variable's text
 module _ (evaluate : Text → Evaluation) where
-  -- the number before the step, or the one behind it
-  abbrev pub step_value : When → ℤ → ℤ → ℤ
-  step_value Later before behind = before
-  step_value First before behind = behind
-
   abbrev pub step : When → Direction → Text → Option ℤ → Evaluation
   step w d name at s =
       and_then (fetched evaluate name at s) (λ n u. and_then (stored name at (stepped d n) u) (λ m v. Ended (step_value w n m) v))

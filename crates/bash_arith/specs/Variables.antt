@@ -1,5 +1,5 @@
 -- How an expression reads and changes variables (Bash Reference Manual, "Shell Arithmetic", "Arrays", "Bash Variables").
-use Rattle.std.specs.Prelude.{ℕ, ℤ, pos, Bool, [], ◌||◌, nat_eq, unwrap_or, Option, Some, None, Result, Ok, Err, if◌then◌else◌, codes}
+use Rattle.std.specs.Prelude.{ℕ, ℤ, pos, Bool, true, false, [], ◌||◌, nat_eq, unwrap_or, Option, Some, None, Result, Ok, Err, if◌then◌else◌, codes}
 use Rattle.std.specs.Cmp.Lexicographic.{pointwise}
 use Rattle.std.specs.FinMap as map
 use Rattle.eb_bytes.specs.Text.{Text}
@@ -45,11 +45,14 @@ fetched evaluate name at s =
     if is_refused name then Faulted (e.Unsupported name) s
     else evaluated_text evaluate name (element_text name at s.store) s
 
+abbrev pub is_array : Option Value → Bool
+is_array None = false
+is_array (Some (value.Text t)) = false
+is_array (Some (value.Array es)) = true
+
 -- a text given to a name that holds an array is given to element 0
 abbrev pub assigned_text : Text → Text → Option Value → Store → Result Store VarErr
-assigned_text name t (Some (value.Array es)) s = set_elem name (pos 0) t s
-assigned_text name t (Some (value.Text old)) s = set name (value.Text t) s
-assigned_text name t None s = set name (value.Text t) s
+assigned_text name t old s = if is_array old then set_elem name (pos 0) t s else set name (value.Text t) s
 
 -- a text given to a name, or to the element that a subscript means
 abbrev pub assigned_at : Text → Option ℤ → Text → Store → Result Store VarErr

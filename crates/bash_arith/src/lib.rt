@@ -2,6 +2,7 @@
 #![tactic(auto)]
 
 mod error;
+mod machine;
 mod number;
 mod stack;
 mod variable;
