@@ -1,6 +1,6 @@
 -- The instructions for an expression leave its value on the stack.
-use Rattle.std.proofs.Common.{arith, ◌≡◌, ℕ, zero, suc, ◌+◌, ◌-◌, ◌≤◌, ℤ, pos, Bool, true, false, not, List, [], ◌∷◌, ◌++◌, length, Option, Some, None, refl, ap, sym, ◌∙◌, if◌then◌else◌}
-use Rattle.std.proofs.lemmas.List.{append_assoc, length-append}
+use Rattle.std.proofs.Common.{arith, ◌≡◌, ℕ, zero, suc, ◌+◌, ◌-◌, ◌≤◌, ℤ, pos, Bool, true, false, not, List, [], ◌∷◌, ◌++◌, length, Option, Some, None, Result, Ok, Err, refl, ap, sym, ◌∙◌, if◌then◌else◌}
+use Rattle.std.proofs.lemmas.List.{append_assoc, append-nil, length-append}
 use Rattle.std.proofs.Math.Nat.{min-eq_left}
 use Rattle.eb_bytes.specs.Text.{Text}
 use Rattle.arith_syntax.specs.declared.instruction.Instruction.{Instruction}
@@ -11,11 +11,13 @@ use Rattle.arith_syntax.specs.declared.operator.Joint.TheVariants.{Comma, Or, An
 use Rattle.arith_syntax.specs.declared.operator.Direction.{Direction}
 use Rattle.arith_syntax.specs.declared.operator.When.{When}
 use Rattle.arith_syntax.specs.Expression.{Expression, Variable, Named, Element, Nothing, Constant, Meant, Opened, Signed, Stepped, Raised, Joined, Chosen, Assigned}
-use Rattle.arith_syntax.specs.Code.{Code, place_of, subscript_code, code_of}
+use Rattle.arith_syntax.specs.declared.reader.Refusal.{Refusal}
+use Rattle.arith_syntax.specs.Reading.{expression}
+use Rattle.arith_syntax.specs.Code.{Code, coded, place_of, program, subscript_code, code_of}
 use Rattle.bash_arith.specs.Machine.{Stack, run}
 use Rattle.bash_arith.specs.Numbers.{is_zero, truth, operated, signed, raised}
 use Rattle.bash_arith.specs.Outcome.{State, Outcome, Ended, Faulted, and_then}
-use Rattle.bash_arith.specs.Value.{Levels, Evaluation, Use, answered, assign, evaluate, inside, joined, levels_of, step, used, valued}
+use Rattle.bash_arith.specs.Value.{Levels, Evaluation, Use, answered, assign, evaluate, fault_of, inside, joined, levels_of, read_value, step, text_value, used, valued}
 use Rattle.bash_arith.specs.Variables.{fetched, stored}
 
 -- what goes on with each number as `f` and then `g` do, goes on with the outcome so
@@ -99,15 +101,15 @@ module _ (n : ℕ) where
   operating o (Named x) e c m h code stack = λ u.
       ap (λ k. and_then (fetched (evaluate (levels_of k)) x None u) (λ z w. run n (code_of m e ++ i.Operate o ∷ i.Store (place_of m (Named x)) ∷ code) 0 (z ∷ stack) w)) (min-eq_left h)
       ∙ chained (fetched (evaluate (levels_of m)) x None u) (λ l q. and_then (valued (levels_of m) e q) (λ r p. and_then (answered (operated o l r) p) (λ k w. stored x None k w))) (next code stack) (λ z w. run n (code_of m e ++ i.Operate o ∷ i.Store (place_of m (Named x)) ∷ code) 0 (z ∷ stack) w)
-          (λ l q. c m h (i.Operate o ∷ i.Store (place_of m (Named x)) ∷ code) (l ∷ stack) q
-              ∙ chained (valued (levels_of m) e q) (λ r p. and_then (answered (operated o l r) p) (λ k w. stored x None k w)) (next code stack) (λ r p. run n (i.Operate o ∷ i.Store (place_of m (Named x)) ∷ code) 0 (r ∷ l ∷ stack) p)
-                  (λ r p. chained (answered (operated o l r) p) (λ k w. stored x None k w) (next code stack) (λ k w. run n (i.Store (place_of m (Named x)) ∷ code) 0 (k ∷ stack) w) (λ k w. refl)))
+      (λ l q. c m h (i.Operate o ∷ i.Store (place_of m (Named x)) ∷ code) (l ∷ stack) q
+      ∙ chained (valued (levels_of m) e q) (λ r p. and_then (answered (operated o l r) p) (λ k w. stored x None k w)) (next code stack) (λ r p. run n (i.Operate o ∷ i.Store (place_of m (Named x)) ∷ code) 0 (r ∷ l ∷ stack) p)
+      (λ r p. chained (answered (operated o l r) p) (λ k w. stored x None k w) (next code stack) (λ k w. run n (i.Store (place_of m (Named x)) ∷ code) 0 (k ∷ stack) w) (λ k w. refl)))
   operating o (Element x f) e c m h code stack = λ at u.
       ap (λ k. and_then (fetched (evaluate (levels_of k)) x (Some at) u) (λ z w. run n (code_of m e ++ i.Operate o ∷ i.Store (place_of m (Element x f)) ∷ code) 0 (z ∷ at ∷ stack) w)) (min-eq_left h)
       ∙ chained (fetched (evaluate (levels_of m)) x (Some at) u) (λ l q. and_then (valued (levels_of m) e q) (λ r p. and_then (answered (operated o l r) p) (λ k w. stored x (Some at) k w))) (next code stack) (λ z w. run n (code_of m e ++ i.Operate o ∷ i.Store (place_of m (Element x f)) ∷ code) 0 (z ∷ at ∷ stack) w)
-          (λ l q. c m h (i.Operate o ∷ i.Store (place_of m (Element x f)) ∷ code) (l ∷ at ∷ stack) q
-              ∙ chained (valued (levels_of m) e q) (λ r p. and_then (answered (operated o l r) p) (λ k w. stored x (Some at) k w)) (next code stack) (λ r p. run n (i.Operate o ∷ i.Store (place_of m (Element x f)) ∷ code) 0 (r ∷ l ∷ at ∷ stack) p)
-                  (λ r p. chained (answered (operated o l r) p) (λ k w. stored x (Some at) k w) (next code stack) (λ k w. run n (i.Store (place_of m (Element x f)) ∷ code) 0 (k ∷ at ∷ stack) w) (λ k w. refl)))
+      (λ l q. c m h (i.Operate o ∷ i.Store (place_of m (Element x f)) ∷ code) (l ∷ at ∷ stack) q
+      ∙ chained (valued (levels_of m) e q) (λ r p. and_then (answered (operated o l r) p) (λ k w. stored x (Some at) k w)) (next code stack) (λ r p. run n (i.Operate o ∷ i.Store (place_of m (Element x f)) ∷ code) 0 (r ∷ l ∷ at ∷ stack) p)
+      (λ r p. chained (answered (operated o l r) p) (λ k w. stored x (Some at) k w) (next code stack) (λ k w. run n (i.Store (place_of m (Element x f)) ∷ code) 0 (k ∷ at ∷ stack) w) (λ k w. refl)))
 
   -- two sides and the operator between them
   joins : (j : Joint) (left right : Expression) → Compiles left → Compiles right → Compiles (Joined j left right)
@@ -121,24 +123,24 @@ module _ (n : ℕ) where
       ∙ ap (λ k. run n k 0 stack s) (append_assoc (code_of m left) (i.OrElse (length (code_of m right) + 1) ∷ code_of m right) (i.Truth ∷ code))
       ∙ c m h (i.OrElse (length (code_of m right) + 1) ∷ (code_of m right ++ i.Truth ∷ code)) stack s
       ∙ chained (valued (levels_of m) left s) (λ l u. joined Or l (valued (levels_of m) right) u) (next code stack) (λ l u. run n (i.OrElse (length (code_of m right) + 1) ∷ (code_of m right ++ i.Truth ∷ code)) 0 (l ∷ stack) u)
-          (λ l u. branch (is_zero l) (run n (code_of m right ++ i.Truth ∷ code) 0 stack u) (run n (code_of m right ++ i.Truth ∷ code) (length (code_of m right) + 1) (pos 1 ∷ stack) u) (and_then (valued (levels_of m) right u) (λ r w. Ended (truth (not (is_zero r))) w)) (Ended (pos 1) u) (next code stack)
-              (d m h (i.Truth ∷ code) stack u ∙ chained (valued (levels_of m) right u) (λ r w. Ended (truth (not (is_zero r))) w) (next code stack) (λ r w. run n (i.Truth ∷ code) 0 (r ∷ stack) w) (λ r w. refl))
-              (skipped_more (code_of m right) i.Truth code (pos 1 ∷ stack) u))
+      (λ l u. branch (is_zero l) (run n (code_of m right ++ i.Truth ∷ code) 0 stack u) (run n (code_of m right ++ i.Truth ∷ code) (length (code_of m right) + 1) (pos 1 ∷ stack) u) (and_then (valued (levels_of m) right u) (λ r w. Ended (truth (not (is_zero r))) w)) (Ended (pos 1) u) (next code stack)
+      (d m h (i.Truth ∷ code) stack u ∙ chained (valued (levels_of m) right u) (λ r w. Ended (truth (not (is_zero r))) w) (next code stack) (λ r w. run n (i.Truth ∷ code) 0 (r ∷ stack) w) (λ r w. refl))
+      (skipped_more (code_of m right) i.Truth code (pos 1 ∷ stack) u))
   joins And left right c d m h code stack s =
       ap (λ k. run n k 0 stack s) (append_assoc (code_of m left ++ i.AndThen (length (code_of m right) + 1) ∷ code_of m right) (i.Truth ∷ []) code)
       ∙ ap (λ k. run n k 0 stack s) (append_assoc (code_of m left) (i.AndThen (length (code_of m right) + 1) ∷ code_of m right) (i.Truth ∷ code))
       ∙ c m h (i.AndThen (length (code_of m right) + 1) ∷ (code_of m right ++ i.Truth ∷ code)) stack s
       ∙ chained (valued (levels_of m) left s) (λ l u. joined And l (valued (levels_of m) right) u) (next code stack) (λ l u. run n (i.AndThen (length (code_of m right) + 1) ∷ (code_of m right ++ i.Truth ∷ code)) 0 (l ∷ stack) u)
-          (λ l u. branch (is_zero l) (run n (code_of m right ++ i.Truth ∷ code) (length (code_of m right) + 1) (pos 0 ∷ stack) u) (run n (code_of m right ++ i.Truth ∷ code) 0 stack u) (Ended (pos 0) u) (and_then (valued (levels_of m) right u) (λ r w. Ended (truth (not (is_zero r))) w)) (next code stack)
-              (skipped_more (code_of m right) i.Truth code (pos 0 ∷ stack) u)
-              (d m h (i.Truth ∷ code) stack u ∙ chained (valued (levels_of m) right u) (λ r w. Ended (truth (not (is_zero r))) w) (next code stack) (λ r w. run n (i.Truth ∷ code) 0 (r ∷ stack) w) (λ r w. refl)))
+      (λ l u. branch (is_zero l) (run n (code_of m right ++ i.Truth ∷ code) (length (code_of m right) + 1) (pos 0 ∷ stack) u) (run n (code_of m right ++ i.Truth ∷ code) 0 stack u) (Ended (pos 0) u) (and_then (valued (levels_of m) right u) (λ r w. Ended (truth (not (is_zero r))) w)) (next code stack)
+      (skipped_more (code_of m right) i.Truth code (pos 0 ∷ stack) u)
+      (d m h (i.Truth ∷ code) stack u ∙ chained (valued (levels_of m) right u) (λ r w. Ended (truth (not (is_zero r))) w) (next code stack) (λ r w. run n (i.Truth ∷ code) 0 (r ∷ stack) w) (λ r w. refl)))
   joins (Both o) left right c d m h code stack s =
       ap (λ k. run n k 0 stack s) (append_assoc (code_of m left ++ code_of m right) (i.Operate o ∷ []) code)
       ∙ ap (λ k. run n k 0 stack s) (append_assoc (code_of m left) (code_of m right) (i.Operate o ∷ code))
       ∙ c m h (code_of m right ++ i.Operate o ∷ code) stack s
       ∙ chained (valued (levels_of m) left s) (λ l u. joined (Both o) l (valued (levels_of m) right) u) (next code stack) (λ l u. run n (code_of m right ++ i.Operate o ∷ code) 0 (l ∷ stack) u)
-          (λ l u. d m h (i.Operate o ∷ code) (l ∷ stack) u
-              ∙ chained (valued (levels_of m) right u) (λ r w. answered (operated o l r) w) (next code stack) (λ r w. run n (i.Operate o ∷ code) 0 (r ∷ l ∷ stack) w) (λ r w. refl))
+      (λ l u. d m h (i.Operate o ∷ code) (l ∷ stack) u
+      ∙ chained (valued (levels_of m) right u) (λ r w. answered (operated o l r) w) (next code stack) (λ r w. run n (i.Operate o ∷ code) 0 (r ∷ l ∷ stack) w) (λ r w. refl))
 
   raises : (base e : Expression) → Compiles base → Compiles e → Compiles (Raised base e)
   unfolding run code_of valued
@@ -147,8 +149,8 @@ module _ (n : ℕ) where
       ∙ ap (λ k. run n k 0 stack s) (append_assoc (code_of m base) (code_of m e) (i.Raise ∷ code))
       ∙ c m h (code_of m e ++ i.Raise ∷ code) stack s
       ∙ chained (valued (levels_of m) base s) (λ b u. and_then (valued (levels_of m) e u) (λ z v. answered (raised b z) v)) (next code stack) (λ b u. run n (code_of m e ++ i.Raise ∷ code) 0 (b ∷ stack) u)
-          (λ b u. d m h (i.Raise ∷ code) (b ∷ stack) u
-              ∙ chained (valued (levels_of m) e u) (λ z v. answered (raised b z) v) (next code stack) (λ z v. run n (i.Raise ∷ code) 0 (z ∷ b ∷ stack) v) (λ z v. refl))
+      (λ b u. d m h (i.Raise ∷ code) (b ∷ stack) u
+      ∙ chained (valued (levels_of m) e u) (λ z v. answered (raised b z) v) (next code stack) (λ z v. run n (i.Raise ∷ code) 0 (z ∷ b ∷ stack) v) (λ z v. refl))
 
   chooses : (q a b : Expression) → Compiles q → Compiles a → Compiles b → Compiles (Chosen q a b)
   unfolding run code_of valued
@@ -157,16 +159,17 @@ module _ (n : ℕ) where
       ∙ ap (λ k. run n k 0 stack s) (append_assoc (code_of m q) (i.Unless (length (code_of m a) + 1) ∷ code_of m a) (i.Skip (length (code_of m b)) ∷ (code_of m b ++ code)))
       ∙ c m h (i.Unless (length (code_of m a) + 1) ∷ (code_of m a ++ i.Skip (length (code_of m b)) ∷ (code_of m b ++ code))) stack s
       ∙ chained (valued (levels_of m) q s) (λ z u. if is_zero z then valued (levels_of m) b u else valued (levels_of m) a u) (next code stack) (λ z u. run n (i.Unless (length (code_of m a) + 1) ∷ (code_of m a ++ i.Skip (length (code_of m b)) ∷ (code_of m b ++ code))) 0 (z ∷ stack) u)
-          (λ z u. branch (is_zero z) (run n (code_of m a ++ i.Skip (length (code_of m b)) ∷ (code_of m b ++ code)) (length (code_of m a) + 1) stack u) (run n (code_of m a ++ i.Skip (length (code_of m b)) ∷ (code_of m b ++ code)) 0 stack u) (valued (levels_of m) b u) (valued (levels_of m) a u) (next code stack)
-              (skipped_more (code_of m a) (i.Skip (length (code_of m b))) (code_of m b ++ code) stack u ∙ e m h code stack u)
-              (d m h (i.Skip (length (code_of m b)) ∷ (code_of m b ++ code)) stack u
-                  ∙ same (valued (levels_of m) a u) (λ v w. run n (i.Skip (length (code_of m b)) ∷ (code_of m b ++ code)) 0 (v ∷ stack) w) (next code stack) (λ v w. skipped (code_of m b) code (v ∷ stack) w)))
+      (λ z u. branch (is_zero z) (run n (code_of m a ++ i.Skip (length (code_of m b)) ∷ (code_of m b ++ code)) (length (code_of m a) + 1) stack u) (run n (code_of m a ++ i.Skip (length (code_of m b)) ∷ (code_of m b ++ code)) 0 stack u) (valued (levels_of m) b u) (valued (levels_of m) a u) (next code stack)
+      (skipped_more (code_of m a) (i.Skip (length (code_of m b))) (code_of m b ++ code) stack u ∙ e m h code stack u)
+      (d m h (i.Skip (length (code_of m b)) ∷ (code_of m b ++ code)) stack u
+      ∙ same (valued (levels_of m) a u) (λ v w. run n (i.Skip (length (code_of m b)) ∷ (code_of m b ++ code)) 0 (v ∷ stack) w) (next code stack) (λ v w. skipped (code_of m b) code (v ∷ stack) w)))
 
   less : (m : ℕ) → m ≤ n → m - 1 ≤ n
   less m h = omega arith
 
   mutual
     unfolding run code_of valued
+
     placed : (v : Variable) (m : ℕ) → m ≤ n → (rest : Code) (stack : Stack) (s : State) → run n (subscript_code m v ++ rest) 0 stack s ≡ used (levels_of m) v (λ x at u. run n rest 0 (with_subscript at stack) u) s
     placed (Named x) m h rest stack s = refl
     placed (Element x e) m h rest stack s = compiled e m h rest stack s
@@ -202,3 +205,42 @@ module _ (n : ℕ) where
         ∙ ap (λ k. run n (subscript_code m v ++ k) 0 stack s) (append_assoc (i.Load (place_of m v) ∷ code_of m e) (i.Operate o ∷ i.Store (place_of m v) ∷ []) code)
         ∙ placed v m h (i.Load (place_of m v) ∷ (code_of m e ++ i.Operate o ∷ i.Store (place_of m v) ∷ code)) stack s
         ∙ used_so (levels_of m) v (λ x at. assign (evaluate (levels_of m)) (Some o) x at (valued (levels_of m) e)) (λ x at u. run n (i.Load (place_of m v) ∷ (code_of m e ++ i.Operate o ∷ i.Store (place_of m v) ∷ code)) 0 (with_subscript at stack) u) (next code stack) s (operating o v e (compiled e) m h code stack)
+
+same_le : (k : ℕ) → k ≤ k
+same_le k = omega arith
+
+never : {r : Refusal} {code : Code} → ◌≡◌ {A = Result Code Refusal} (Err r) (Ok code) → ⊥
+never h = cc
+
+ok_is : {a b : Code} → ◌≡◌ {A = Result Code Refusal} (Ok a) (Ok b) → a ≡ b
+ok_is h = cc
+
+err_is : {a b : Refusal} → ◌≡◌ {A = Result Code Refusal} (Err a) (Err b) → a ≡ b
+err_is h = cc
+
+ended : (o : Outcome) → and_then o (λ z u. Ended z u) ≡ o
+ended (Ended z u) = refl
+ended (Faulted fault u) = refl
+
+module _ (n : ℕ) (t : Text) (s : State) where
+  of_code : (r : Result Expression Refusal) (code : Code) → coded n r ≡ Ok code → read_value (levels_of n) r s ≡ run n code 0 [] s
+  unfolding run
+  of_code (Ok e) code h =
+      sym (ended (valued (levels_of n) e s))
+      ∙ sym (compiled n e n (same_le n) [] [] s)
+      ∙ ap (λ c. run n c 0 [] s) (append-nil (code_of n e))
+      ∙ ap (λ c. run n c 0 [] s) (ok_is h)
+  of_code (Err refusal) code h = absurd (never h)
+
+  of_refusal : (r : Result Expression Refusal) (refusal : Refusal) → coded n r ≡ Err refusal → read_value (levels_of n) r s ≡ Faulted (fault_of refusal) s
+  of_refusal (Ok e) refusal h = absurd (never (sym h))
+  of_refusal (Err given) refusal h = ap (λ f. Faulted (fault_of f) s) (err_is h)
+
+  -- a text's value is what its instructions leave on top
+  pub text_runs : (code : Code) → program n t ≡ Ok code → text_value n t s ≡ run n code 0 [] s
+  unfolding text_value program
+  text_runs code h = of_code (expression n t) code h
+
+  pub text_is_refused : (refusal : Refusal) → program n t ≡ Err refusal → text_value n t s ≡ Faulted (fault_of refusal) s
+  unfolding text_value program
+  text_is_refused refusal h = of_refusal (expression n t) refusal h

@@ -1,4 +1,5 @@
 mod Compiled
+mod Executed
 mod Left
 mod Powers
 mod Single

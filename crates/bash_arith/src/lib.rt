@@ -1,10 +1,12 @@
 //! Arithmetic expressions over shell variables (Bash Reference Manual, "Shell Arithmetic").
 #![tactic(auto)]
 
+mod arithmetic;
 mod error;
 mod machine;
 mod number;
 mod stack;
 mod variable;
 
+pub use arithmetic::eval;
 pub use error::ArithErr;

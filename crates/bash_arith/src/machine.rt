@@ -1,4 +1,4 @@
-ghost use Rattle.std.specs.Prelude.{◌≡◌, ℕ, ◌+◌, [], drop, Ok};
+ghost use Rattle.std.specs.Prelude.{◌≡◌, ℕ, ◌+◌, [], ◌∷◌, drop, Ok, IfSome, IfNone};
 ghost use Rattle.arith_syntax.specs.declared.instruction.Instruction.TheVariants as i;
 ghost use Rattle.bash_arith.specs.Machine as m;
 ghost use Rattle.bash_arith.specs.Outcome.{Pays, State, Tells, state};
@@ -9,9 +9,7 @@ use crate::error::ArithErr;
 use crate::number::{is_zero, operate, raise, sign, step, truth};
 use crate::stack::Stack;
 use crate::variable::{assign, element_text, is_refused, refused};
-use arith_syntax::{
-    Direction, Instruction, Operator, Place, ReadErr, Refusal, Sign, When, read,
-};
+use arith_syntax::{Direction, Instruction, Operator, Place, ReadErr, Refusal, Sign, When, read};
 use eb_bytes::{Budget, Bytes, Steps};
 use shell_vars::Vars;
 use std::alloc::Global;
@@ -69,11 +67,23 @@ fn run<L: Ledger>(
 {
     let mut stack = Stack::new(alloc);
     let mut rest = code;
-    while let [instruction, behind @ ..] = rest {
-        let left_out = execute(alloc, instruction, levels, &mut stack, vars, budget, steps)?;
-        rest = behind_some(behind, left_out);
+    while let Some((instruction, behind)) = split_first(rest) {
+        match execute(alloc, instruction, levels, &mut stack, vars, budget, steps) {
+            Ok(left_out) => rest = behind_some(behind, left_out),
+            Err(fault) => return Err(fault),
+        }
     }
     Ok(stack.top())
+}
+
+fn split_first(code: &[Instruction]) -> Option<(&Instruction, &[Instruction])>
+    ensures some { IfSome result (λ split. code.now ≡ split.0.now ∷ split.1.now) }
+    ensures none { IfNone result (code.now ≡ []) }
+{
+    match code {
+        [instruction, behind @ ..] => Some((instruction, behind)),
+        [] => None,
+    }
 }
 
 // What stands behind so many of them.
@@ -105,7 +115,9 @@ fn execute<L: Ledger>(
         Instruction::Load(place) => load(alloc, place, levels, stack, vars, budget, steps),
         Instruction::Store(place) => store(alloc, place, stack, vars),
         Instruction::Step(when, direction, place) => {
-            step_variable(alloc, *when, *direction, place, levels, stack, vars, budget, steps)
+            step_variable(
+                alloc, *when, *direction, place, levels, stack, vars, budget, steps,
+            )
         }
         Instruction::Sign(prefix) => put_signed(stack, *prefix),
         Instruction::Operate(operator) => put_operated(stack, *operator),
@@ -121,6 +133,7 @@ fn execute<L: Ledger>(
 
 // Takes the subscript of a place, and puts what the variable means.
 #[cycle(machine)]
+#[tactic(auto, using(crate::proofs::Executed::goes_on, crate::proofs::Executed::faults, crate::proofs::Executed::wants))]
 fn fetch<L: Ledger>(
     alloc: Global,
     place: &Place,
@@ -143,6 +156,7 @@ fn fetch<L: Ledger>(
 
 // Leaves the subscript of a place, and puts what the variable means.
 #[cycle(machine)]
+#[tactic(auto, using(crate::proofs::Executed::goes_on, crate::proofs::Executed::faults, crate::proofs::Executed::wants))]
 fn load<L: Ledger>(
     alloc: Global,
     place: &Place,
@@ -184,7 +198,9 @@ fn step_variable<L: Ledger>(
     let at = take_subscript(place, stack);
     let before = meaning(alloc, place, at, levels, vars, budget, steps)?;
     let behind = step(direction, before);
-    assign(alloc, vars, place.name.as_slice(), at, behind)?;
+    if let Err(fault) = assign(alloc, vars, place.name.as_slice(), at, behind) {
+        return Err(fault);
+    }
     stack.push(step_value(when, before, behind))?;
     Ok(0)
 }
@@ -214,7 +230,7 @@ fn meaning<L: Ledger>(
         Err(refusal) => return Err(refused(alloc, name, refusal)),
     };
     pay(budget, steps)?;
-    let levels = levels.min(place.levels);
+    let levels = place.levels.min(levels);
     if levels == 0 {
         return Err(ArithErr::Nesting);
     }
@@ -267,6 +283,7 @@ fn take_subscript(place: &Place, stack: &mut Stack) -> Option<i64>
 }
 
 // Takes a number, above its subscript, gives it to the variable, and puts it.
+#[tactic(auto, using(crate::proofs::Executed::goes_on, crate::proofs::Executed::faults, crate::proofs::Executed::wants))]
 fn store(
     alloc: Global,
     place: &Place,
