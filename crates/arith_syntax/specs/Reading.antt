@@ -7,6 +7,8 @@ use Rattle.arith_syntax.specs.declared.operator.Symbol.TheVariants as symbol
 use Rattle.arith_syntax.specs.declared.operator.Operator.{Operator}
 use Rattle.arith_syntax.specs.declared.operator.Sign.{Sign}
 use Rattle.arith_syntax.specs.declared.operator.Direction.{Direction}
+use Rattle.arith_syntax.specs.declared.rule.Rule.{Rule}
+use Rattle.arith_syntax.specs.declared.rule.Rule.TheVariants.{Whole, Subscript, Assignment, Conditional, Power, Operand, Stepping}
 use Rattle.arith_syntax.specs.declared.operator.When.TheVariants.{Later, First}
 use Rattle.arith_syntax.specs.declared.reader.Refusal.{Refusal}
 use Rattle.arith_syntax.specs.declared.reader.Refusal.TheVariants.{Syntax, Nesting}
@@ -24,22 +26,6 @@ and_then (Ok r) f = f r.0 r.1
 and_then (Err e) f = Err e
 
 -- ---- what may stand one nesting deeper
-
-pub data Rule : Type 0 where
-  -- an expression
-  Whole : Rule
-  -- a subscript, which may be empty
-  Subscript : Rule
-  -- the right side of an assignment
-  Assignment : Rule
-  -- the last part of `?:`
-  Conditional : Rule
-  -- the exponent
-  Power : Rule
-  -- what a sign acts on
-  Operand : Rule
-  -- a variable that is stepped first
-  Stepping : Direction → Rule
 
 abbrev pub Rules : Type 0
 Rules = Rule → Text → Reading Expression
@@ -86,12 +72,20 @@ constant_by (Some n) t = Ok (Constant n, t)
 abbrev pub constant : Text → Reading Expression
 constant t = constant_by (constant_of (take (constant_len t) t)) (drop (constant_len t) t)
 
+-- an expression in parentheses, behind the first of them
+abbrev pub parenthesized : Rules → Text → Reading Expression
+parenthesized inside t = and_then (inside Whole t) (λ e u. behind 41 (after_blanks u) (λ v. Ok (e, v)))
+
+-- what a variable means, or a step behind it
+abbrev pub meaning : Rules → Text → Reading Expression
+meaning inside t = and_then (variable inside t) (λ v u. stepped_behind v u (step_behind u))
+
 -- a text in parentheses, a variable or a constant
 abbrev pub primary : Rules → Text → Reading Expression
 primary inside [] = Err Syntax
 primary inside (b ∷ t) =
-    if b == 40 then and_then (inside Whole t) (λ e u. behind 41 (after_blanks u) (λ v. Ok (e, v)))
-    else (if begins_name (b ∷ t) then and_then (variable inside (b ∷ t)) (λ v u. stepped_behind v u (step_behind u))
+    if b == 40 then parenthesized inside t
+    else (if begins_name (b ∷ t) then meaning inside (b ∷ t)
     else (if is_digit b then constant (b ∷ t) else Err Syntax))
 
 abbrev pub signed : Rules → Text → Option (Sign × Text) → Reading Expression

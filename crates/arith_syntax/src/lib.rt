@@ -7,6 +7,7 @@ mod instruction;
 mod name;
 mod operator;
 mod reader;
+mod rule;
 mod symbol;
 #[cfg(test)]
 mod tests;

@@ -1,0 +1,112 @@
+-- What is left where the instructions for what was read are put behind others.
+use Rattle.std.specs.Prelude.{◌≡◌, ℕ, zero, suc, ◌+◌, ◌-◌, ◌==◌, Bool, true, false, List, [], ◌∷◌, ◌++◌, length, Option, Some, None, Result, Ok, Err, if◌then◌else◌}
+use Rattle.eb_bytes.specs.Text.{Text}
+use Rattle.arith_syntax.specs.declared.instruction.Instruction.TheVariants as i
+use Rattle.arith_syntax.specs.declared.instruction.Place.{Place}
+use Rattle.arith_syntax.specs.declared.operator.Joint.{Joint}
+use Rattle.arith_syntax.specs.declared.operator.Joint.TheVariants.{Comma, Or, And, Both}
+use Rattle.arith_syntax.specs.declared.operator.Operator.{Operator}
+use Rattle.arith_syntax.specs.declared.operator.Symbol.{Symbol}
+use Rattle.arith_syntax.specs.declared.operator.Symbol.TheVariants as symbol
+use Rattle.arith_syntax.specs.declared.reader.ExpressionRead.{ExpressionRead}
+use Rattle.arith_syntax.specs.declared.reader.VariableRead.{VariableRead}
+use Rattle.arith_syntax.specs.declared.reader.ReadErr.{ReadErr}
+use Rattle.arith_syntax.specs.declared.reader.ReadErr.TheVariants.{Refused}
+use Rattle.arith_syntax.specs.declared.reader.Refusal.{Refusal}
+use Rattle.arith_syntax.specs.Code.{Code, code_of, place_of, subscript_code}
+use Rattle.arith_syntax.specs.Expression.{Expression, Variable, Meant}
+use Rattle.arith_syntax.specs.Reading.{Reading, Rules, assignment, binary, opened, reading, too_deep}
+
+abbrev pub is_meant : Expression → Bool
+is_meant (Meant v) = true
+is_meant other = false
+
+-- an expression was read, and its instructions were put behind others
+pub record Puts (n : ℕ) (r : Reading Expression) (old new : Code) (is_variable : Bool) (rest : Text) : Type 0 where
+  pub expression : Expression
+  pub reads : r ≡ Ok (expression, rest)
+  pub puts : new ≡ old ++ code_of n expression
+  pub kind : is_variable ≡ is_meant expression
+
+-- the same, or the text is refused so
+abbrev pub Reads : ℕ → Reading Expression → Code → Result ExpressionRead ReadErr → Code → Type 0
+Reads n r old (Ok x) new = Puts n r old new x.is_variable x.rest.now
+Reads n r old (Err e) new = (refusal : Refusal) → e ≡ Refused refusal → r ≡ Err refusal
+
+-- a variable was read, and the instructions for its subscript were put behind others
+pub record PutsPlace (n : ℕ) (r : Reading Variable) (old new : Code) (place : Place) (rest : Text) : Type 0 where
+  pub variable : Variable
+  pub reads : r ≡ Ok (variable, rest)
+  pub puts : new ≡ old ++ subscript_code n variable
+  pub names : place ≡ place_of n variable
+
+abbrev pub ReadsPlace : ℕ → Reading Variable → Code → Result VariableRead ReadErr → Code → Type 0
+ReadsPlace n r old (Ok x) new = PutsPlace n r old new x.place x.rest.now
+ReadsPlace n r old (Err e) new = (refusal : Refusal) → e ≡ Refused refusal → r ≡ Err refusal
+
+-- what an operator and its right side put behind the left side
+abbrev pub continued : Joint → Code → Code
+continued Comma right = i.Discard ∷ right
+continued Or right = i.OrElse (length right + 1) ∷ right ++ i.Truth ∷ []
+continued And right = i.AndThen (length right + 1) ∷ right ++ i.Truth ∷ []
+continued (Both o) right = right ++ i.Operate o ∷ []
+
+-- the right side of an operator was read, and its instructions were put behind those of the left one
+pub record PutsRight (n : ℕ) (j : Joint) (r : Reading Expression) (old new : Code) (rest : Text) : Type 0 where
+  pub right : Expression
+  pub reads : r ≡ Ok (right, rest)
+  pub puts : new ≡ old ++ continued j (code_of n right)
+
+abbrev pub ReadsRight : ℕ → Joint → Reading Expression → Code → Result ExpressionRead ReadErr → Code → Type 0
+ReadsRight n j r old (Ok x) new = PutsRight n j r old new x.rest.now × (x.is_variable ≡ false)
+ReadsRight n j r old (Err e) new = (refusal : Refusal) → e ≡ Refused refusal → r ≡ Err refusal
+
+-- what the parts of `?:` behind the first put
+abbrev pub chosen : Code → Code → Code
+chosen a b = i.Unless (length a + 1) ∷ a ++ i.Skip (length b) ∷ b
+
+-- what an assignment puts before its right side, and behind it
+abbrev pub loading : Option Operator → Place → Code
+loading None p = []
+loading (Some o) p = i.Load p ∷ []
+
+abbrev pub storing : Option Operator → Place → Code
+storing None p = i.Store p ∷ []
+storing (Some o) p = i.Operate o ∷ i.Store p ∷ []
+
+-- ---- what is one nesting deeper
+
+unfoldable pub inner : ℕ → Rules
+inner zero = too_deep
+inner (suc n) = λ r t. opened (reading n r t)
+
+-- what the operators of a level stand between
+unfoldable pub side : Rules → ℕ → Text → Reading Expression
+side inside level = if level == 11 then assignment inside else binary inside (level - 1)
+
+-- ---- what stands behind an operator, if it is this one
+
+abbrev pub past_power : Symbol → Text → Option Text
+past_power symbol.Power t = Some t
+past_power other t = None
+
+abbrev pub past_question : Symbol → Text → Option Text
+past_question symbol.Question t = Some t
+past_question other t = None
+
+abbrev pub past_colon : Symbol → Text → Option Text
+past_colon symbol.Colon t = Some t
+past_colon other t = None
+
+abbrev pub past_assign : Symbol → Text → Option (Option Operator × Text)
+past_assign (symbol.Assign by) t = Some (by, t)
+past_assign other t = None
+
+abbrev pub past : {A : Type 0} → (Symbol → Text → Option A) → Option (Symbol × Text) → Option A
+past f None = None
+past f (Some s) = f s.0 s.1
+
+-- what stands behind this byte, if the text begins with it
+abbrev pub past_byte : ℕ → Text → Option Text
+past_byte c [] = None
+past_byte c (b ∷ t) = if b == c then Some t else None
