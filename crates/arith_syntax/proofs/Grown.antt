@@ -1,5 +1,5 @@
 -- Operands of a level, joined from the left in a loop.
-use Rattle.std.proofs.Common.{◌≡◌, ◌∙◌, ℕ, zero, suc, ◌+◌, Bool, false, List, [], ◌∷◌, ◌++◌, length, Option, Some, None, Ok, Err, refl, ap, sym, append_assoc}
+use Rattle.std.proofs.Common.{◌≡◌, ◌∙◌, ℕ, zero, suc, ◌+◌, Bool, false, [], ◌∷◌, ◌++◌, length, Some, None, Ok, Err, refl, ap, sym, append_assoc}
 use Rattle.eb_bytes.specs.Text.{Text}
 use Rattle.arith_syntax.specs.declared.instruction.Instruction.TheVariants as i
 use Rattle.arith_syntax.specs.declared.operator.Joint.{Joint}

@@ -1,5 +1,5 @@
 -- How the rules read, from what was read of their parts.
-use Rattle.std.proofs.Common.{◌≡◌, ◌≢◌, ◌∙◌, ℕ, zero, suc, ◌+◌, ◌-◌, ◌<◌, ◌≤◌, ℤ, pos, ◌==◌, Bool, true, false, List, [], ◌∷◌, ◌++◌, length, take, drop, get_or, Option, Some, None, Result, Ok, Err, refl, ap, subst, sym, arith, append_assoc, if◌then◌else◌}
+use Rattle.std.proofs.Common.{◌≡◌, ◌≢◌, ◌∙◌, ℕ, zero, suc, ◌+◌, ◌-◌, ◌≤◌, ℤ, pos, ◌==◌, Bool, true, false, [], ◌∷◌, ◌++◌, length, take, drop, get_or, Option, Some, None, Result, Ok, Err, refl, ap, subst, sym, arith, append_assoc, if◌then◌else◌}
 use Rattle.std.proofs.lemmas.List.{append-nil}
 use Rattle.std.proofs.lemmas.Bool.Decides.{nat_tests}
 use Rattle.arith_syntax.specs.Constants.{constant_len, constant_of}
@@ -8,8 +8,6 @@ use Rattle.arith_syntax.specs.declared.instruction.Instruction.{Instruction}
 use Rattle.arith_syntax.specs.declared.instruction.Instruction.TheVariants as i
 use Rattle.arith_syntax.specs.declared.instruction.Place.{Place}
 use Rattle.arith_syntax.specs.declared.operator.Direction.{Direction}
-use Rattle.arith_syntax.specs.declared.operator.Joint.{Joint}
-use Rattle.arith_syntax.specs.declared.operator.Joint.TheVariants.{Comma, Or, And, Both}
 use Rattle.arith_syntax.specs.declared.operator.Operator.{Operator}
 use Rattle.arith_syntax.specs.declared.operator.Sign.{Sign}
 use Rattle.arith_syntax.specs.declared.operator.Symbol.{Symbol}
@@ -22,11 +20,11 @@ use Rattle.arith_syntax.specs.declared.reader.Refusal.{Refusal}
 use Rattle.arith_syntax.specs.declared.reader.Refusal.TheVariants.{Syntax, Nesting}
 use Rattle.arith_syntax.specs.declared.rule.Rule.{Rule}
 use Rattle.arith_syntax.specs.declared.rule.Rule.TheVariants.{Whole, Subscript, Assignment, Conditional, Power, Operand, Stepping}
-use Rattle.arith_syntax.specs.Code.{Code, assigning, choosing, code_of, coded, place_of, program, subscript_code}
+use Rattle.arith_syntax.specs.Code.{Code, assigning, code_of, coded, place_of, program, subscript_code}
 use Rattle.arith_syntax.specs.Expression.{Expression, Variable, Named, Element, Nothing, Constant, Meant, Opened, Signed, Stepped, Raised, Joined, Chosen, Assigned}
 use Rattle.arith_syntax.specs.Names.{after_blanks, begins_name, is_digit, name_at, without_quotes}
-use Rattle.arith_syntax.specs.Putting.{Puts, PutsPlace, PutsRight, Reads, chosen, continued, inner, is_meant, loading, past, past_assign, past_byte, past_colon, past_power, past_question, side, storing}
-use Rattle.arith_syntax.specs.Reading.{Reading, Rules, and_then, assigned, assignment, assignment_behind, assignment_by, begins, behind, binary, by_rule, constant, constant_by, choice_behind, choice_by, conditional, ended, ends, expression, joined, meaning, opened, operand, otherwise, otherwise_by, parenthesized, power, power_behind, power_by, primary, reading, signed, stepping, subscript, too_deep, unquoted, variable, variable_behind, variable_of, whole}
+use Rattle.arith_syntax.specs.Putting.{Puts, PutsPlace, Reads, chosen, inner, is_meant, loading, past, past_assign, past_byte, past_colon, past_power, past_question, side, storing}
+use Rattle.arith_syntax.specs.Reading.{Reading, Rules, and_then, assigned, assignment, assignment_behind, assignment_by, begins, behind, binary, by_rule, constant, constant_by, choice_behind, choice_by, conditional, ends, expression, joined, meaning, opened, operand, otherwise, otherwise_by, power, power_behind, power_by, primary, reading, signed, stepping, subscript, unquoted, variable, variable_behind, variable_of, whole}
 use Rattle.arith_syntax.specs.Symbols.{first_of, signs, step_before, step_behind, symbol_at}
 
 -- ---- readings
@@ -69,12 +67,6 @@ behind_both a d e {b} {c} p q = q ∙ ap (λ x. x ++ e) p ∙ append_assoc a d e
 -- two lists with one more element are equal only where the lists and the elements are
 data AreLast (xs ys : Code) (x y : Instruction) : Type 0 where
   are_last : xs ≡ ys → x ≡ y → AreLast xs ys x y
-
-front_of : {xs ys : Code} {x y : Instruction} → AreLast xs ys x y → xs ≡ ys
-front_of (are_last p q) = p
-
-last_of : {xs ys : Code} {x y : Instruction} → AreLast xs ys x y → x ≡ y
-last_of (are_last p q) = q
 
 one_more : (z : Instruction) {xs ys : Code} {x y : Instruction} {w : Instruction} → z ≡ w → AreLast xs ys x y → AreLast (z ∷ xs) (w ∷ ys) x y
 one_more z {xs} {ys} {x} {y} {w} e (are_last p q) = are_last (cc) q
@@ -188,14 +180,6 @@ behind_at c (b ∷ t) v f h = by (b == c) h
     by true h = let same : t ≡ v = cc in ap f same
     by false h = absurd (cc)
 
-pub behind_none : {A : Type 0} (c : ℕ) (t : Text) (f : Text → Reading A) → past_byte c t ≡ None → behind c t f ≡ Err Syntax
-behind_none c [] f h = refl
-behind_none c (b ∷ t) f h = by (b == c) h
-  where
-    by : (x : Bool) → (if x then Some t else None) ≡ None → (if x then f t else Err Syntax) ≡ Err Syntax
-    by true h = absurd (cc)
-    by false h = refl
-
 -- ---- `**`
 
 pub power_alone : {n : ℕ} (inside : Rules) (t : Text) {u : Text} {old new : Code} {b : Bool} → Puts n (operand inside t) old new b u → past past_power (symbol_at u) ≡ None → Puts n (power inside t) old new b u
@@ -245,9 +229,9 @@ last_refused {n} inside t {u} {v} {w} {x} {old} {mid} {some} {more} {b} {c} {ref
 
 pub condition_chosen : {n : ℕ} (inside : Rules) (t : Text) {u v w x y : Text} {old mid empty middle none other new : Code} {b c d : Bool} → Puts n (binary inside 10 t) old mid b u → past past_question (symbol_at u) ≡ Some v → Puts n (inside Whole v) empty middle c w → empty ≡ [] → past past_colon (symbol_at w) ≡ Some x → Puts n (inside Conditional x) none other d y → none ≡ [] → new ≡ mid ++ chosen middle other → Puts n (conditional inside t) old new false y
 unfolding conditional code_of
-condition_chosen {n} inside t {u} {v} {w} {x} {y} {old} {mid} {empty} {middle} {none} {other} {new} {b} {c} {d} p h q none_yet k r no2 e =
-    let first : middle ≡ code_of n q.expression = q.puts ∙ ap (λ z. z ++ code_of n q.expression) none_yet in
-    let second : other ≡ code_of n r.expression = r.puts ∙ ap (λ z. z ++ code_of n r.expression) no2 in
+condition_chosen {n} inside t {u} {v} {w} {x} {y} {old} {mid} {empty} {middle} {none} {other} {new} {b} {c} {d} p h q fresh k r fresh2 e =
+    let first : middle ≡ code_of n q.expression = q.puts ∙ ap (λ z. z ++ code_of n q.expression) fresh in
+    let second : other ≡ code_of n r.expression = r.puts ∙ ap (λ z. z ++ code_of n r.expression) fresh2 in
     record {
       expression = Chosen p.expression q.expression r.expression;
       reads = rw p.reads (at_question inside p.expression u v (symbol_at u) h ∙ (rw q.reads (at_colon inside p.expression q.expression x (symbol_at w) k ∙ (rw r.reads refl))));
@@ -303,6 +287,7 @@ target_refused {n} inside t {u} {v} {old} {mid} {b} {by} p h never = rw p.reads 
   where
     clash : is_meant p.expression ≡ true → IsMeaning p.expression → ⊥
     clash k (is_meaning x e) = never (p.kind ∙ k) (old ++ subscript_code n x) (place_of n x) (p.puts ∙ ap (λ y. old ++ code_of n y) e ∙ ap (λ c. old ++ c) (meant_code n x) ∙ sym (append_assoc old (subscript_code n x) (i.Fetch (place_of n x) ∷ [])))
+
     decide : (m : Bool) → is_meant p.expression ≡ m → assigned inside by p.expression v ≡ Err Syntax
     decide true k = absurd (clash k (meaning_of p.expression k))
     decide false k = not_assigned inside by p.expression v k
@@ -331,6 +316,7 @@ target_assigned {n} inside t {u} {v} {w} {old} {mid} {loaded} {whole} {new} {b} 
     put x (are_last f g) =
         let same : place ≡ place_of n x = cc in
         assigned_behind n by x q.expression old f (l ∙ ap (λ y. front ++ loading by y) same) q.puts (s ∙ ap (λ y. whole ++ storing by y) same)
+
     from : IsMeaning p.expression → Puts n (assignment inside t) old new false w
     from (is_meaning x e) = record {
       expression = Assigned by x q.expression;
@@ -350,12 +336,6 @@ signed_put {n} inside t {u} {v} {old} {mid} {new} {b} {s} h p e = record {
   kind = refl;
 }
 
-pub signed_refused : (inside : Rules) (t : Text) {v : Text} {s : Sign} {refusal : Refusal} → first_of signs t ≡ Some (s, v) → inside Operand v ≡ Err refusal → signed inside t (first_of signs t) ≡ Err refusal
-signed_refused inside t {v} {s} {refusal} h p = ap (signed inside t) h ∙ (rw p refl)
-
-pub signed_none : (inside : Rules) (t : Text) → first_of signs t ≡ None → signed inside t (first_of signs t) ≡ primary inside t
-signed_none inside t h = ap (signed inside t) h
-
 pub operand_stepped : (inside : Rules) (t : Text) {v : Text} {d : Direction} → step_before t ≡ Some (d, v) → operand inside t ≡ inside (Stepping d) v
 unfolding operand
 operand_stepped inside t {v} {d} h = rw h refl
@@ -363,17 +343,6 @@ operand_stepped inside t {v} {d} h = rw h refl
 pub operand_signed : (inside : Rules) (t : Text) → step_before t ≡ None → operand inside t ≡ signed inside (after_blanks t) (first_of signs (after_blanks t))
 unfolding operand
 operand_signed inside t h = rw h refl
-
-pub closed_put : {n : ℕ} (inside : Rules) (t : Text) {u v : Text} {old new : Code} {b : Bool} → Puts n (inside Whole t) old new b u → past_byte 41 (after_blanks u) ≡ Some v → Puts n (parenthesized inside t) old new b v
-closed_put {n} inside t {u} {v} {old} {new} {b} p h = record {
-  expression = p.expression;
-  reads = rw p.reads (behind_at 41 (after_blanks u) v (λ w. Ok (p.expression, w)) h);
-  puts = p.puts;
-  kind = p.kind;
-}
-
-pub closed_refused : {n : ℕ} (inside : Rules) (t : Text) {u : Text} {old new : Code} {b : Bool} → Puts n (inside Whole t) old new b u → past_byte 41 (after_blanks u) ≡ None → parenthesized inside t ≡ Err Syntax
-closed_refused {n} inside t {u} {old} {new} {b} p h = rw p.reads (behind_none 41 (after_blanks u) (λ w. Ok (p.expression, w)) h)
 
 pub meaning_put : {n : ℕ} (inside : Rules) (t : Text) {u : Text} {old mid new : Code} {place : Place} → PutsPlace n (variable inside t) old mid place u → step_behind u ≡ None → new ≡ mid ++ i.Fetch place ∷ [] → Puts n (meaning inside t) old new true u
 meaning_put {n} inside t {u} {old} {mid} {new} {place} p h e = record {
@@ -419,9 +388,6 @@ at_bracket inside x (b ∷ u) v h = by (b == 91) h
     by true h = let same : u ≡ v = cc in ap (λ z. and_then (inside Subscript z) (λ e w. behind 93 (after_blanks w) (λ y. Ok (Element x e, y)))) same
     by false h = absurd (cc)
 
-pub no_name : (inside : Rules) (t : Text) → name_at t ≡ None → variable inside t ≡ Err Syntax
-no_name inside t h = ap (variable_of inside) h
-
 pub named_put : {n : ℕ} (inside : Rules) (t : Text) {x u : Text} {old : Code} {place : Place} → name_at t ≡ Some (x, u) → past_byte 91 u ≡ None → place ≡ record { name = x; subscripted = false; levels = n } → PutsPlace n (variable inside t) old old place u
 unfolding subscript_code
 named_put {n} inside t {x} {u} {old} {place} h k e = record {
@@ -430,12 +396,6 @@ named_put {n} inside t {x} {u} {old} {place} h k e = record {
   puts = sym (append-nil old);
   names = e;
 }
-
-pub subscript_refused : (inside : Rules) (t : Text) {x u v : Text} {refusal : Refusal} → name_at t ≡ Some (x, u) → past_byte 91 u ≡ Some v → inside Subscript v ≡ Err refusal → variable inside t ≡ Err refusal
-subscript_refused inside t {x} {u} {v} {refusal} h k q = ap (variable_of inside) h ∙ at_bracket inside x u v k ∙ (rw q refl)
-
-pub bracket_refused : {n : ℕ} (inside : Rules) (t : Text) {x u v w : Text} {old new : Code} {b : Bool} → name_at t ≡ Some (x, u) → past_byte 91 u ≡ Some v → Puts n (inside Subscript v) old new b w → past_byte 93 (after_blanks w) ≡ None → variable inside t ≡ Err Syntax
-bracket_refused {n} inside t {x} {u} {v} {w} {old} {new} {b} h k p q = ap (variable_of inside) h ∙ at_bracket inside x u v k ∙ (rw p.reads (behind_none 93 (after_blanks w) (λ y. Ok (Element x p.expression, y)) q))
 
 pub element_put : {n : ℕ} (inside : Rules) (t : Text) {x u v w y : Text} {old new : Code} {b : Bool} {place : Place} → name_at t ≡ Some (x, u) → past_byte 91 u ≡ Some v → Puts n (inside Subscript v) old new b w → past_byte 93 (after_blanks w) ≡ Some y → place ≡ record { name = x; subscripted = true; levels = n } → PutsPlace n (variable inside t) old new place y
 unfolding subscript_code
@@ -510,29 +470,6 @@ binary_joined inside level t h low =
     let e : level ≡ suc (level - 1) = omega arith in
     ap (λ x. binary inside x t) e ∙ binary_suc inside (level - 1) t ∙ ap (λ x. joined (λ u. binary inside (level - 1) u) x t) (sym e) ∙ ap (λ f. joined f level t) (sym (side_is inside level (omega arith)))
 
--- ---- the right sides of operators
-
-pub both_right : {n : ℕ} {r : Reading Expression} {old mid new : Code} {b : Bool} {u : Text} {o : Operator} → Puts n r old mid b u → new ≡ mid ++ i.Operate o ∷ [] → PutsRight n (Both o) r old new u
-both_right {n} {r} {old} {mid} {new} {b} {u} {o} p e = record {
-  right = p.expression;
-  reads = p.reads;
-  puts = behind_both _ _ _ p.puts e;
-}
-
-pub comma_right : {n : ℕ} {r : Reading Expression} {old mid new : Code} {b : Bool} {u : Text} → mid ≡ old ++ i.Discard ∷ [] → Puts n r mid new b u → PutsRight n Comma r old new u
-comma_right {n} {r} {old} {mid} {new} {b} {u} e p = record {
-  right = p.expression;
-  reads = p.reads;
-  puts = behind_both _ _ _ e p.puts;
-}
-
-pub skipped_right : {n : ℕ} {r : Reading Expression} {j : Joint} {empty part old new : Code} {b : Bool} {u : Text} → empty ≡ [] → Puts n r empty part b u → new ≡ old ++ continued j part → PutsRight n j r old new u
-skipped_right {n} {r} {j} {empty} {part} {old} {new} {b} {u} none_yet p e = record {
-  right = p.expression;
-  reads = p.reads;
-  puts = e ∙ ap (λ c. old ++ continued j c) (p.puts ∙ ap (λ c. c ++ code_of n p.expression) none_yet);
-}
-
 -- ---- subscripts
 
 pub subscript_empty : {n : ℕ} (inside : Rules) (t : Text) {old new : Code} → begins 93 (after_blanks t) ≡ true → new ≡ old ++ i.Push (pos 0) ∷ [] → Puts n (subscript inside t) old new false t
@@ -543,9 +480,6 @@ subscript_empty {n} inside t {old} {new} h e = record {
   puts = e;
   kind = refl;
 }
-
-pub subscript_some : (inside : Rules) (t : Text) → begins 93 (after_blanks t) ≡ false → subscript inside t ≡ whole inside t
-subscript_some inside t h = rw h refl
 
 -- ---- constants
 
@@ -558,9 +492,6 @@ constant_put {n} t {u} {old} {new} {z} h e k = record {
   kind = refl;
 }
 
-pub constant_refused : (t : Text) → constant_of (take (constant_len t) t) ≡ None → constant t ≡ Err Syntax
-constant_refused t h = ap (λ o. constant_by o (drop (constant_len t) t)) h
-
 pub at_digit : (inside : Rules) (t : Text) → 1 ≤ length t → get_or t 0 0 ≢ 40 → begins_name t ≡ false → is_digit (get_or t 0 0) ≡ true → primary inside t ≡ constant t
 at_digit inside [] h k m d = absurd (omega arith)
 at_digit inside (b ∷ t) h k m d = let e : (b == 40) ≡ false = grind (arith, nat_tests) in rw (e, m, d) refl
@@ -569,16 +500,16 @@ at_digit inside (b ∷ t) h k m d = let e : (b == 40) ≡ false = grind (arith, 
 
 pub program_empty : (n : ℕ) (t s : Text) {old : Code} (new : Code) → s ≡ without_quotes t → ends (after_blanks s) ≡ true → old ≡ [] → new ≡ old ++ i.Push (pos 0) ∷ [] → program n t ≡ Ok new
 unfolding program expression code_of
-program_empty n t s {old} new e h none_yet p =
-    ap (λ x. coded n (unquoted n x)) (sym e) ∙ (rw h (ap (λ c. Ok c) (sym (p ∙ ap (λ c. c ++ i.Push (pos 0) ∷ []) none_yet))))
+program_empty n t s {old} new e h fresh p =
+    ap (λ x. coded n (unquoted n x)) (sym e) ∙ (rw h (ap (λ c. Ok c) (sym (p ∙ ap (λ c. c ++ i.Push (pos 0) ∷ []) fresh))))
 
 whole_read : (n : ℕ) (s : Text) → reading n Whole s ≡ whole (inner n) s
 whole_read n s = reading_is n Whole s
 
 pub program_read : {n : ℕ} (t s : Text) {u : Text} {old new : Code} {b : Bool} → s ≡ without_quotes t → ends (after_blanks s) ≡ false → old ≡ [] → Puts n (whole (inner n) s) old new b u → ends (after_blanks u) ≡ true → program n t ≡ Ok new
 unfolding program expression
-program_read {n} t s {u} {old} {new} {b} e h none_yet p k =
-    ap (λ x. coded n (unquoted n x)) (sym e) ∙ (rw (h, whole_read n s, p.reads, k) (ap (λ c. Ok c) (sym (p.puts ∙ ap (λ c. c ++ code_of n p.expression) none_yet))))
+program_read {n} t s {u} {old} {new} {b} e h fresh p k =
+    ap (λ x. coded n (unquoted n x)) (sym e) ∙ (rw (h, whole_read n s, p.reads, k) (ap (λ c. Ok c) (sym (p.puts ∙ ap (λ c. c ++ code_of n p.expression) fresh))))
 
 pub program_behind : {n : ℕ} (t s : Text) {u : Text} {old new : Code} {b : Bool} → s ≡ without_quotes t → ends (after_blanks s) ≡ false → Puts n (whole (inner n) s) old new b u → ends (after_blanks u) ≡ false → program n t ≡ Err Syntax
 unfolding program expression

@@ -76,7 +76,11 @@ pub fn read(alloc: Global, text: &[u8], levels: u8) -> Result<Vec<Instruction>, 
         return Ok(code);
     }
     let read = whole(alloc, text, levels, &mut code)?;
-    if is_blank(read.rest) { Ok(code) } else { Err(ReadErr::Refused(Refusal::Syntax)) }
+    if is_blank(read.rest) {
+        Ok(code)
+    } else {
+        Err(ReadErr::Refused(Refusal::Syntax))
+    }
 }
 
 fn is_blank(text: &[u8]) -> bool
@@ -389,7 +393,10 @@ fn meaning<'t>(
     let variable = variable(alloc, text, levels, code)?;
     match step_behind(variable.rest) {
         Some((direction, behind)) => {
-            push(Instruction::Step(When::Later, direction, variable.place), code)?;
+            push(
+                Instruction::Step(When::Later, direction, variable.place),
+                code,
+            )?;
             Ok(value(behind))
         }
         None => {
@@ -414,7 +421,10 @@ fn stepping<'t>(
     ensures { Reads levels (spec.stepping (inner levels) direction text.now) code.old.items result code.new.items }
 {
     let variable = variable(alloc, text, levels, code)?;
-    push(Instruction::Step(When::First, direction, variable.place), code)?;
+    push(
+        Instruction::Step(When::First, direction, variable.place),
+        code,
+    )?;
     Ok(value(variable.rest))
 }
 
@@ -531,7 +541,12 @@ fn copied(alloc: Global, place: &Place) -> Result<Place, Memory>
 }
 
 // Puts what an assignment does before its right side.
-fn push_load(alloc: Global, by: Option<Operator>, place: &Place, code: &mut Vec<Instruction>) -> Result<(), Memory>
+fn push_load(
+    alloc: Global,
+    by: Option<Operator>,
+    place: &Place,
+    code: &mut Vec<Instruction>,
+) -> Result<(), Memory>
     ensures { OnOk result (code.new.items ≡ code.old.items ++ loading by place.now) }
 {
     if let Some(_) = by {
@@ -551,7 +566,11 @@ fn push_store(by: Option<Operator>, place: Place, code: &mut Vec<Instruction>) -
 }
 
 // Puts the right side of `&&` or `||`, which is left out where the left one decides.
-fn push_skippable(joint: Joint, mut side: Vec<Instruction>, code: &mut Vec<Instruction>) -> Result<(), Memory>
+fn push_skippable(
+    joint: Joint,
+    mut side: Vec<Instruction>,
+    code: &mut Vec<Instruction>,
+) -> Result<(), Memory>
     requires { (joint ≡ Joint.Or) ⊎ (joint ≡ Joint.And) }
     ensures { OnOk result (code.new.items ≡ code.old.items ++ continued joint side.items) }
 {
@@ -604,7 +623,9 @@ fn looseness(joint: Joint) -> u8
         Joint::Both(Operator::BitXor) => 7,
         Joint::Both(Operator::BitAnd) => 6,
         Joint::Both(Operator::Equal | Operator::NotEqual) => 5,
-        Joint::Both(Operator::Less | Operator::LessOrEqual | Operator::Greater | Operator::GreaterOrEqual) => 4,
+        Joint::Both(
+            Operator::Less | Operator::LessOrEqual | Operator::Greater | Operator::GreaterOrEqual,
+        ) => 4,
         Joint::Both(Operator::ShiftLeft | Operator::ShiftRight) => 3,
         Joint::Both(Operator::Add | Operator::Subtract) => 2,
         Joint::Both(Operator::Multiply | Operator::Divide | Operator::Remainder) => 1,

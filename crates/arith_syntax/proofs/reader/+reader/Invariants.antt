@@ -1,4 +1,4 @@
-use Rattle.std.proofs.Common.{◌≡◌, ◌+◌, ◌*◌, ◌-◌}
+use Rattle.std.proofs.Common.{◌+◌, ◌*◌, ◌-◌}
 use Rattle.arith_syntax.specs.Putting.{inner, side}
 use Rattle.arith_syntax.proofs.Grown.{Grows}
 use Rattle.arith_syntax.proofs.reader.+reader.Given as goal

@@ -1,10 +1,7 @@
-use Rattle.std.proofs.Common.{◌≡◌, ◌∙◌, ◌++◌, ◌∷◌, [], true, false, pos, ap, sym}
+use Rattle.std.proofs.Common.{◌≡◌, ◌∙◌, sym}
 use Rattle.std.proofs.lemmas.Result.{err_from_is_err_and}
-use Rattle.arith_syntax.specs.declared.instruction.Instruction.TheVariants.{Push}
 use Rattle.arith_syntax.specs.declared.reader.ReadErr.TheVariants.{Refused}
 use Rattle.arith_syntax.specs.declared.reader.Refusal.TheVariants.{Syntax}
-use Rattle.arith_syntax.specs.Names.{after_blanks, without_quotes}
-use Rattle.arith_syntax.specs.Reading.{ends}
 use Rattle.arith_syntax.proofs.Rules.{program_behind, program_empty, program_read, program_refused, refused_as}
 use Rattle.arith_syntax.proofs.reader.read.Goals as goal
 
@@ -16,8 +13,8 @@ pub returns-in_err-read-clause-refused : goal.returns-in_err-read-clause-refused
 returns-in_err-read-clause-refused c =
     let p = err_from_is_err_and c.from_residual-in_err-read.result c.from_residual-in_err-read.ensures.1 in
     rw (p.1, p.2) (λ refusal h.
-        let k : c.in_err-read.field-0.0 ≡ Refused refusal = cc in
-        program_refused c.args.levels c.args.text.now c.as_slice-text.result.now (c.as_slice-text.ensures ∙ c.in_ok-text.ensures) (sym c.is_blank.ensures ∙ c.if-is_blank.false) (c.in_err-read.ensures refusal k))
+    let k : c.in_err-read.field-0.0 ≡ Refused refusal = cc in
+    program_refused c.args.levels c.args.text.now c.as_slice-text.result.now (c.as_slice-text.ensures ∙ c.in_ok-text.ensures) (sym c.is_blank.ensures ∙ c.if-is_blank.false) (c.in_err-read.ensures refusal k))
 
 pub returns-then-is_blank-2-clause-ok : goal.returns-then-is_blank-2-clause-ok
 returns-then-is_blank-2-clause-ok c =
