@@ -549,7 +549,7 @@ fn push_load(
 ) -> Result<(), Memory>
     ensures { OnOk result (code.new.items ≡ code.old.items ++ loading by place.now) }
 {
-    if let Some(_) = by {
+    if by.is_some() {
         push(Instruction::Load(copied(alloc, place)?), code)?;
     }
     Ok(())

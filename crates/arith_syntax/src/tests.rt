@@ -1,4 +1,5 @@
 use crate::constant::constant_at;
+use crate::reader::{ReadErr, Refusal, read};
 
 // Constants and their numbers, as bash 5.2 gives them.
 const CONSTANTS: [(&[u8], Option<i64>); 44] = [
@@ -67,5 +68,61 @@ fn constants_count_as_in_bash(rt: HostRuntime) {
 fn constants_that_bash_alone_reads(rt: HostRuntime) {
     for text in NOT_FORMED {
         assert_eq!(rt; constant_at(text).0, None, "{text:?}");
+    }
+}
+
+// Expressions, how many nestings may be open, and how many instructions there are for them.
+const EXPRESSIONS: [(&[u8], u8, usize); 20] = [
+    (b"", 0, 1),
+    (b" \t\n", 0, 1),
+    (b"x", 0, 1),
+    (b"\"1\"0", 0, 1),
+    (b"1+2*3", 0, 5),
+    (b"1 , 2", 0, 3),
+    (b"1||2", 0, 4),
+    (b"1&&2&&3", 0, 7),
+    (b"1?2:3", 1, 5),
+    (b"1?2,3:4?5:6", 2, 11),
+    (b"2**3**2", 2, 5),
+    (b"-x", 1, 2),
+    (b"x++", 0, 1),
+    (b"++x", 1, 1),
+    (b"a[1]", 1, 2),
+    (b"a[]", 1, 2),
+    (b"x=y=1", 2, 3),
+    (b"x+=1", 1, 4),
+    (b"a[1]+=2", 1, 5),
+    (b"((1))", 2, 1),
+];
+
+// Texts that bash 5.2 does not read either.
+const REFUSED: [&[u8]; 16] = [
+    b"1=2", b"(x)=1", b"x++=1", b"1+x=2", b"1 2", b"1+", b"x?1", b"x?:1", b"()", b"(1", b"1)",
+    b"a[1", b"a [1]", b"x**=2", b"08", b"$x",
+];
+
+#[test]
+fn expressions_have_their_instructions(rt: HostRuntime) {
+    for (text, levels, count) in EXPRESSIONS {
+        let code = read(rt.alloc(), text, levels).map(|code| code.len());
+        assert_eq!(rt; code, Ok(count), "{text:?}");
+    }
+}
+
+#[test]
+fn other_texts_are_refused(rt: HostRuntime) {
+    for text in REFUSED {
+        let code = read(rt.alloc(), text, 64).map(|code| code.len());
+        assert_eq!(rt; code, Err(ReadErr::Refused(Refusal::Syntax)), "{text:?}");
+    }
+}
+
+#[test]
+fn one_nesting_too_many_is_refused(rt: HostRuntime) {
+    for (text, levels, _) in EXPRESSIONS {
+        if levels > 0 {
+            let code = read(rt.alloc(), text, levels - 1).map(|code| code.len());
+            assert_eq!(rt; code, Err(ReadErr::Refused(Refusal::Nesting)), "{text:?}");
+        }
     }
 }
