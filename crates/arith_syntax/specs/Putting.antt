@@ -74,8 +74,7 @@ abbrev pub storing : Option Operator → Place → Code
 storing None p = i.Store p ∷ []
 storing (Some o) p = i.Operate o ∷ i.Store p ∷ []
 
--- ---- what is one nesting deeper
-
+-- the rules one nesting deeper, where so many may be opened
 unfoldable pub inner : ℕ → Rules
 inner zero = too_deep
 inner (suc n) = λ r t. opened (reading n r t)

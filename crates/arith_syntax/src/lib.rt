@@ -6,6 +6,8 @@ mod constant;
 mod instruction;
 mod name;
 mod operator;
+mod past;
+mod put;
 mod reader;
 mod rule;
 mod symbol;

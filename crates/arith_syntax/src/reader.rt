@@ -9,9 +9,13 @@ ghost use Rattle.arith_syntax.specs.Putting.{Reads, ReadsPlace, ReadsRight, chos
 use crate::constant::constant_at;
 use crate::instruction::{Instruction, Place};
 use crate::name::{after_blanks, begins_name, name_at, without_quotes};
-use crate::operator::{Direction, Joint, Operator, Symbol, When};
+use crate::operator::{Direction, Joint, When};
+use crate::past::{
+    begins, is_blank, joint_at, past_assign, past_byte, past_colon, past_power, past_question,
+};
+use crate::put::{push, push_chosen, push_load, push_skippable, push_store, take_place};
 use crate::rule::Rule;
-use crate::symbol::{sign_at, step_before, step_behind, symbol_at};
+use crate::symbol::{sign_at, step_before, step_behind};
 use eb_bytes::{Bytes, Memory};
 use std::alloc::Global;
 
@@ -59,8 +63,8 @@ struct VariableRead<'t> {
     rest: &'t [u8],
 }
 
-/// The instructions for an expression in which at most `levels` nestings are open at once (Bash Reference Manual, "Shell
-/// Arithmetic"). Double quotes in the text are as if they were not there; a text of blanks is 0.
+/// The instructions for an expression in which at most `levels` nestings are open at once (Bash Reference Manual,
+/// "Shell Arithmetic"). Double quotes in the text are as if they were not there; a text of blanks is 0.
 ///
 /// # Errors
 /// `Refused` with the first refusal from the left, `Memory` where there is no room for the instructions.
@@ -83,19 +87,6 @@ pub fn read(alloc: Global, text: &[u8], levels: u8) -> Result<Vec<Instruction>, 
     }
 }
 
-fn is_blank(text: &[u8]) -> bool
-    ensures { result ≡ spec.ends (after_blanks text.now) }
-{
-    after_blanks(text).is_empty()
-}
-
-fn push(instruction: Instruction, code: &mut Vec<Instruction>) -> Result<(), Memory>
-    ensures { OnOk result (code.new.items ≡ code.old.items ++ instruction ∷ []) }
-{
-    code.push(instruction)?;
-    Ok(())
-}
-
 // An expression that is not a variable's meaning.
 fn value(rest: &[u8]) -> ExpressionRead<'_>
     ensures rest { result.rest.now ≡ rest.now }
@@ -106,8 +97,6 @@ fn value(rest: &[u8]) -> ExpressionRead<'_>
         is_variable: false,
     }
 }
-
-// ---- the loosest forms
 
 // Assignments with commas between them.
 #[cycle(reader)]
@@ -184,8 +173,6 @@ fn conditional<'t>(
     push_chosen(middle, last, code)?;
     Ok(value(read.rest))
 }
-
-// ---- operators between operands
 
 // Operands joined by operators that bind at most as loosely as this; by none at 0.
 #[cycle(reader)]
@@ -300,8 +287,6 @@ fn power<'t>(
     push(Instruction::Raise, code)?;
     Ok(value(exponent.rest))
 }
-
-// ---- operands
 
 // A primary behind any prefix operators.
 #[cycle(reader)]
@@ -505,8 +490,6 @@ fn by_rule<'t>(
     }
 }
 
-// ---- what takes no recursion
-
 // A constant goes as far as bytes of constants stand.
 fn constant<'t>(text: &'t [u8], code: &mut Vec<Instruction>) -> Result<ExpressionRead<'t>, ReadErr>
     ensures { (levels : ℕ) → Reads levels (spec.constant text.now) code.old.items result code.new.items }
@@ -517,171 +500,4 @@ fn constant<'t>(text: &'t [u8], code: &mut Vec<Instruction>) -> Result<Expressio
     };
     push(Instruction::Push(number), code)?;
     Ok(value(rest))
-}
-
-// The variable whose meaning was put last, taken away from the instructions.
-fn take_place(is_variable: bool, code: &mut Vec<Instruction>) -> Option<Place>
-    ensures taken { IfSome result (λ place. (is_variable ≡ true) × (code.old.items ≡ code.new.items ++ Instruction.Fetch place ∷ [])) }
-    ensures none { result ≡ None → is_variable ≡ true → (front : List Instruction) (place : Place) → code.old.items ≢ front ++ Instruction.Fetch place ∷ [] }
-{
-    match code.pop() {
-        Some(Instruction::Fetch(place)) if is_variable => Some(place),
-        _ => None,
-    }
-}
-
-fn copied(alloc: Global, place: &Place) -> Result<Place, Memory>
-    ensures { IfOk result (λ copy. copy ≡ place.now) }
-{
-    Ok(Place {
-        name: Bytes::from_slice(alloc, place.name.as_slice())?,
-        subscripted: place.subscripted,
-        levels: place.levels,
-    })
-}
-
-// Puts what an assignment does before its right side.
-fn push_load(
-    alloc: Global,
-    by: Option<Operator>,
-    place: &Place,
-    code: &mut Vec<Instruction>,
-) -> Result<(), Memory>
-    ensures { OnOk result (code.new.items ≡ code.old.items ++ loading by place.now) }
-{
-    if by.is_some() {
-        push(Instruction::Load(copied(alloc, place)?), code)?;
-    }
-    Ok(())
-}
-
-// Puts what an assignment does behind its right side.
-fn push_store(by: Option<Operator>, place: Place, code: &mut Vec<Instruction>) -> Result<(), Memory>
-    ensures { OnOk result (code.new.items ≡ code.old.items ++ storing by place) }
-{
-    if let Some(operator) = by {
-        push(Instruction::Operate(operator), code)?;
-    }
-    push(Instruction::Store(place), code)
-}
-
-// Puts the right side of `&&` or `||`, which is left out where the left one decides.
-fn push_skippable(
-    joint: Joint,
-    mut side: Vec<Instruction>,
-    code: &mut Vec<Instruction>,
-) -> Result<(), Memory>
-    requires { (joint ≡ Joint.Or) ⊎ (joint ≡ Joint.And) }
-    ensures { OnOk result (code.new.items ≡ code.old.items ++ continued joint side.items) }
-{
-    let count = side.len() + 1;
-    let decision = match joint {
-        Joint::Or => Instruction::OrElse(count),
-        _ => Instruction::AndThen(count),
-    };
-    push(decision, code)?;
-    code.append(&mut side)?;
-    push(Instruction::Truth, code)
-}
-
-// Puts the two last parts of `?:`, of which one is left out.
-fn push_chosen(
-    mut middle: Vec<Instruction>,
-    mut last: Vec<Instruction>,
-    code: &mut Vec<Instruction>,
-) -> Result<(), Memory>
-    ensures { OnOk result (code.new.items ≡ code.old.items ++ chosen middle.items last.items) }
-{
-    push(Instruction::Unless(middle.len() + 1), code)?;
-    code.append(&mut middle)?;
-    push(Instruction::Skip(last.len()), code)?;
-    code.append(&mut last)?;
-    Ok(())
-}
-
-// ---- what stands behind an operator, if it is this one
-
-#[tactic(auto, unfolding(crate::specs::Reading::joint_at))]
-fn joint_at(level: u8, text: &[u8]) -> Option<(Joint, &[u8])>
-    ensures { option_map (λ j. (j.0, j.1.now)) result ≡ spec.joint_at level text.now }
-{
-    match symbol_at(text) {
-        Some((Symbol::Joint(joint), behind)) if looseness(joint) == level => Some((joint, behind)),
-        _ => None,
-    }
-}
-
-// How loosely an operator binds.
-fn looseness(joint: Joint) -> u8
-    ensures { result ≡ looseness joint }
-{
-    match joint {
-        Joint::Comma => 11,
-        Joint::Or => 10,
-        Joint::And => 9,
-        Joint::Both(Operator::BitOr) => 8,
-        Joint::Both(Operator::BitXor) => 7,
-        Joint::Both(Operator::BitAnd) => 6,
-        Joint::Both(Operator::Equal | Operator::NotEqual) => 5,
-        Joint::Both(
-            Operator::Less | Operator::LessOrEqual | Operator::Greater | Operator::GreaterOrEqual,
-        ) => 4,
-        Joint::Both(Operator::ShiftLeft | Operator::ShiftRight) => 3,
-        Joint::Both(Operator::Add | Operator::Subtract) => 2,
-        Joint::Both(Operator::Multiply | Operator::Divide | Operator::Remainder) => 1,
-    }
-}
-
-fn past_power(text: &[u8]) -> Option<&[u8]>
-    ensures { option_map (λ u. u.now) result ≡ past past_power (symbol_at text.now) }
-{
-    match symbol_at(text) {
-        Some((Symbol::Power, behind)) => Some(behind),
-        _ => None,
-    }
-}
-
-fn past_question(text: &[u8]) -> Option<&[u8]>
-    ensures { option_map (λ u. u.now) result ≡ past past_question (symbol_at text.now) }
-{
-    match symbol_at(text) {
-        Some((Symbol::Question, behind)) => Some(behind),
-        _ => None,
-    }
-}
-
-fn past_colon(text: &[u8]) -> Option<&[u8]>
-    ensures { option_map (λ u. u.now) result ≡ past past_colon (symbol_at text.now) }
-{
-    match symbol_at(text) {
-        Some((Symbol::Colon, behind)) => Some(behind),
-        _ => None,
-    }
-}
-
-fn past_assign(text: &[u8]) -> Option<(Option<Operator>, &[u8])>
-    ensures { option_map (λ a. (a.0, a.1.now)) result ≡ past past_assign (symbol_at text.now) }
-{
-    match symbol_at(text) {
-        Some((Symbol::Assign(by), behind)) => Some((by, behind)),
-        _ => None,
-    }
-}
-
-fn past_byte(byte: u8, text: &[u8]) -> Option<&[u8]>
-    ensures { option_map (λ u. u.now) result ≡ past_byte byte text.now }
-{
-    match text {
-        [first, behind @ ..] if *first == byte => Some(behind),
-        _ => None,
-    }
-}
-
-fn begins(byte: u8, text: &[u8]) -> bool
-    ensures { result ≡ spec.begins byte text.now }
-{
-    match text {
-        [first, ..] => *first == byte,
-        [] => false,
-    }
 }
