@@ -3,10 +3,11 @@
 //! It reads one request a line from standard input and writes one answer a line, to the end of the input. Fields are
 //! separated by blanks. A text is lower-case hexadecimal, `-` where it is empty. A list of marks is its marks joined by
 //! commas, `-` where it is empty: `Lhh` a literal, `Rhh` a byte of a result, `Qhh` a quoted byte, each with the byte in
-//! hexadecimal, `E` empty quotes, `B` a break; where several lists are written, an empty one is `.`. A line that is no
-//! request answers `what`.
+//! hexadecimal, `E` empty quotes, `B` a break; where several lists are written, an empty one is `.`. A variable is its
+//! name, `=` and its text, the name and the text each written as texts are. A line that is no request answers `what`.
 #![tactic(auto)]
 
+mod arithmetic;
 mod eapis;
 mod entries;
 mod field;

@@ -1,3 +1,4 @@
+use crate::arithmetic::arith;
 use crate::eapis::{eapi, key, phase};
 use crate::entries::entry;
 use crate::field::{read_texts, what};
@@ -16,6 +17,9 @@ pub fn answer(alloc: Global, line: &[u8]) -> Result<String, Memory> {
     };
     if name.as_slice() == b"split".as_slice() {
         return split(alloc, fields);
+    }
+    if name.as_slice() == b"arith".as_slice() {
+        return arith(alloc, fields);
     }
     if name.as_slice() == b"match".as_slice() {
         return match_pattern(alloc, fields);
