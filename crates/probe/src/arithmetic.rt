@@ -13,8 +13,8 @@ const STEPS: u64 = 5_000_000;
 
 /// `arith TEXT [NAME=TEXT]..`: `ok`, the expression's number, `steps` and how many were used, or the fault's name and
 /// what it tells; then each variable that was given or set, in the order of the names, `NAME=TEXT`, and each element of
-/// an array `NAME[INDEX]=TEXT`. The variables are given as texts. Of a name that double quotes interrupt nothing is
-/// told.
+/// an array `NAME[INDEX]=TEXT`. The variables are given as texts. A variable that is set and was not given is told where
+/// its name stands in one of the texts, without double quotes in it.
 pub fn arith(alloc: Global, fields: &[Bytes]) -> Result<String, Memory> {
     let [text, given @ ..] = fields else {
         return what(alloc);
@@ -22,13 +22,13 @@ pub fn arith(alloc: Global, fields: &[Bytes]) -> Result<String, Memory> {
     let Some(text) = read_text(alloc, text)? else {
         return what(alloc);
     };
-    let mut vars = Vars::new(alloc)?;
+    let Some(given) = read_variables(alloc, given)? else {
+        return what(alloc);
+    };
     let mut names = Vec::new(alloc);
     push_names(alloc, &mut names, text.as_slice())?;
-    for field in given {
-        let Some((name, value)) = read_variable(alloc, field.as_slice())? else {
-            return what(alloc);
-        };
+    let mut vars = Vars::new(alloc)?;
+    for (name, value) in given {
         push_names(alloc, &mut names, name.as_slice())?;
         push_names(alloc, &mut names, value.as_slice())?;
         if let Err(refusal) = vars.set(name.as_slice(), Value::Text(value)) {
@@ -38,14 +38,7 @@ pub fn arith(alloc: Global, fields: &[Bytes]) -> Result<String, Memory> {
     let mut answer = evaluated::<Brand>(alloc, text.as_slice(), &mut vars, Blank::new(1))?;
     names.sort_unstable();
     names.dedup();
-    for name in &names {
-        push_variable(
-            alloc,
-            &mut answer,
-            name.as_slice(),
-            vars.get(name.as_slice()),
-        )?;
-    }
+    push_variables(alloc, &mut answer, names.as_slice(), &vars)?;
     Ok(answer)
 }
 
@@ -142,21 +135,35 @@ fn read_variable(alloc: Global, field: &[u8]) -> Result<Option<(Bytes, Bytes)>, 
     }
 }
 
-// Writes a variable at the end of an answer, if it has a value.
-fn push_variable(
+// The variables that all the fields give, if each gives one.
+fn read_variables(alloc: Global, fields: &[Bytes]) -> Result<Option<Vec<(Bytes, Bytes)>>, Memory> {
+    let mut variables = Vec::new(alloc);
+    for field in fields {
+        let Some(variable) = read_variable(alloc, field.as_slice())? else {
+            return Ok(None);
+        };
+        variables.push(variable)?;
+    }
+    Ok(Some(variables))
+}
+
+// Writes the variables of these names that have a value at the end of an answer.
+fn push_variables(
     alloc: Global,
     answer: &mut String,
-    name: &[u8],
-    value: Option<&Value>,
+    names: &[Bytes],
+    vars: &Vars,
 ) -> Result<(), Memory> {
-    let name = write_text(alloc, name)?;
-    match value {
-        None => {}
-        Some(Value::Text(text)) => {
-            let text = write_text(alloc, text.as_slice())?;
-            write!(answer, " {name}={text}")?;
+    for name in names {
+        let field = write_text(alloc, name.as_slice())?;
+        match vars.get(name.as_slice()) {
+            None => {}
+            Some(Value::Text(text)) => {
+                let text = write_text(alloc, text.as_slice())?;
+                write!(answer, " {field}={text}")?;
+            }
+            Some(Value::Array(elements)) => push_elements(alloc, answer, &field, elements)?,
         }
-        Some(Value::Array(elements)) => push_elements(alloc, answer, &name, elements)?,
     }
     Ok(())
 }
