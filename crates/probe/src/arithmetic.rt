@@ -13,8 +13,8 @@ const STEPS: u64 = 5_000_000;
 
 /// `arith TEXT [NAME=TEXT]..`: `ok`, the expression's number, `steps` and how many were used, or the fault's name and
 /// what it tells; then each variable that was given or set, in the order of the names, `NAME=TEXT`, and each element of
-/// an array `NAME[INDEX]=TEXT`. The variables are given as texts. A variable that is set and was not given is told where
-/// its name stands in one of the texts, without double quotes in it.
+/// an array `NAME[INDEX]=TEXT`. The variables are given as texts. One that is set and was not given is told where its
+/// name stands in one of the texts, without double quotes in it.
 pub fn arith(alloc: Global, fields: &[Bytes]) -> Result<String, Memory> {
     let [text, given @ ..] = fields else {
         return what(alloc);
