@@ -1,5 +1,5 @@
 -- The instructions for an expression leave its value on the stack.
-use Rattle.std.proofs.Common.{arith, ◌≡◌, ℕ, zero, suc, ◌+◌, ◌-◌, ◌≤◌, ℤ, pos, Bool, true, false, not, List, [], ◌∷◌, ◌++◌, length, Option, Some, None, Result, Ok, Err, refl, ap, sym, ◌∙◌, if◌then◌else◌}
+use Rattle.std.proofs.Common.{arith, ◌≡◌, ℕ, zero, suc, ◌+◌, ◌-◌, ◌≤◌, ℤ, pos, Bool, true, false, not, [], ◌∷◌, ◌++◌, length, Option, Some, None, Result, Ok, Err, refl, ap, sym, ◌∙◌, if◌then◌else◌}
 use Rattle.std.proofs.lemmas.List.{append_assoc, append-nil, length-append}
 use Rattle.std.proofs.Math.Nat.{min-eq_left}
 use Rattle.eb_bytes.specs.Text.{Text}
@@ -17,7 +17,7 @@ use Rattle.arith_syntax.specs.Code.{Code, coded, place_of, program, subscript_co
 use Rattle.bash_arith.specs.Machine.{Stack, run}
 use Rattle.bash_arith.specs.Numbers.{is_zero, truth, operated, signed, raised}
 use Rattle.bash_arith.specs.Outcome.{State, Outcome, Ended, Faulted, and_then}
-use Rattle.bash_arith.specs.Value.{Levels, Evaluation, Use, answered, assign, evaluate, fault_of, inside, joined, levels_of, read_value, step, text_value, used, valued}
+use Rattle.bash_arith.specs.Value.{Levels, Use, answered, assign, evaluate, fault_of, inside, joined, levels_of, read_value, step, text_value, used, valued}
 use Rattle.bash_arith.specs.Variables.{fetched, stored}
 
 -- what goes on with each number as `f` and then `g` do, goes on with the outcome so

@@ -1,5 +1,5 @@
 -- No evaluation leaves more steps than there were.
-use Rattle.std.proofs.Common.{arith, ◌≡◌, ℕ, zero, suc, min, ◌≤◌, ℤ, pos, Bool, true, false, not, List, [], ◌∷◌, Option, Some, None, Result, Ok, Err, refl, if◌then◌else◌}
+use Rattle.std.proofs.Common.{arith, ℕ, zero, suc, min, ◌≤◌, ℤ, pos, Bool, true, false, not, [], ◌∷◌, Option, Some, None, Result, Ok, Err, if◌then◌else◌}
 use Rattle.eb_bytes.specs.Text.{Text}
 use Rattle.shell_vars.specs.declared.error.VarErr.{VarErr}
 use Rattle.shell_vars.specs.Store.{Store}

@@ -1,5 +1,5 @@
 -- What instructions make of a stack of numbers.
-use Rattle.std.specs.Prelude.{◌≡◌, ◌≤◌, ℕ, zero, suc, ℤ, pos, Bool, not, min, List, [], ◌∷◌, Option, Some, None, Result, Ok, Err, if◌then◌else◌}
+use Rattle.std.specs.Prelude.{◌≡◌, ◌≤◌, ℕ, zero, suc, ℤ, pos, not, min, List, [], ◌∷◌, Option, Some, None, Result, Ok, Err, if◌then◌else◌}
 use Rattle.eb_bytes.specs.Text.{Text}
 use Rattle.arith_syntax.specs.declared.instruction.Instruction.{Instruction}
 use Rattle.arith_syntax.specs.declared.instruction.Instruction.TheVariants as i

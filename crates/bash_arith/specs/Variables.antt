@@ -11,7 +11,6 @@ use Rattle.shell_vars.specs.Elements.{index_of}
 use Rattle.shell_vars.specs.Value.{elements_of}
 use Rattle.shell_vars.specs.Store.{Store}
 use Rattle.shell_vars.specs.Calls.{get, set, set_elem}
-use Rattle.bash_arith.specs.declared.error.ArithErr.{ArithErr}
 use Rattle.bash_arith.specs.declared.error.ArithErr.TheVariants as e
 use Rattle.bash_arith.specs.Numbers.{number_text}
 use Rattle.bash_arith.specs.Outcome.{State, Outcome, Ended, Faulted, paid}

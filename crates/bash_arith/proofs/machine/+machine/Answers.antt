@@ -1,10 +1,9 @@
-use Rattle.std.proofs.Common.{rules, ◌≡◌, ◌∙◌, ◌-◌, min, ap, sym, Ok, Err, refl, arith, FitsSigned, w64, of_z, to_z}
+use Rattle.std.proofs.Common.{rules, ◌∙◌, ◌-◌, min, ap, sym, Ok, Err, arith, FitsSigned, w64, of_z, to_z}
 use Rattle.std.proofs.lemmas.Int.{to_z-of_z}
 use Rattle.arith_syntax.specs.declared.instruction.Instruction.TheVariants as i
 use Rattle.bash_arith.specs.Machine as m
 use Rattle.bash_arith.specs.Outcome.{Ended, left, state}
 use Rattle.bash_arith.specs.Numbers.{stepped}
-use Rattle.bash_arith.specs.Value.{text_value}
 use Rattle.bash_arith.proofs.Executed.{arm, closed_value, fetched_is, meaning_fails, opened_value, read_fails, run_ends_from, run_fails_from, run_on_from, step_faults, stored_fault, text_runs_so, told}
 use Rattle.bash_arith.proofs.machine.+machine.Goals as goal
 

@@ -1,4 +1,4 @@
-use Rattle.std.proofs.Common.{◌≡◌, ◌+◌, ◌*◌, ℕ, [], length}
+use Rattle.std.proofs.Common.{◌≡◌, ◌+◌, ◌*◌, [], length}
 use Rattle.bash_arith.specs.Machine as m
 use Rattle.bash_arith.specs.Outcome.{state}
 use Rattle.bash_arith.proofs.machine.+machine.Given as goal

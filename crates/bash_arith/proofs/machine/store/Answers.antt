@@ -1,6 +1,5 @@
-use Rattle.std.proofs.Common.{rules, ◌≡◌}
+use Rattle.std.proofs.Common.{rules}
 use Rattle.bash_arith.specs.Machine as m
-use Rattle.bash_arith.specs.Outcome.{Ended}
 use Rattle.bash_arith.specs.Variables.{stored}
 use Rattle.bash_arith.proofs.Executed.{goes_on}
 use Rattle.bash_arith.proofs.machine.store.Goals as goal
