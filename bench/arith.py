@@ -1,10 +1,10 @@
 #!/usr/bin/env python3
 """Usage: arith.py [PROGRAM [RUNS]]
 
-Times the evaluation of expressions of about SIZE bytes and of twice that, as probe_times.py says. None has a nesting: a
-text of any length may have at most 64 of them open. What limits an expression otherwise is its steps, one for each
-variable whose text is evaluated, of which the probe allows 5,000,000: `x+x+..` of twice the size takes 1,048,576. Ends
-with 1 where an answer is wrong.
+Times the evaluation of expressions of about SIZE bytes and of twice that, as probe_times.py says. No nesting stands
+inside another in them, since a text of any length may have at most 64 open at once. What limits an expression otherwise
+is its steps, one for each variable whose text is evaluated, of which the probe allows 5,000,000: `x+x+..` of twice the
+size takes 1,048,576. Ends with 1 where an answer is wrong.
 """
 import sys
 
