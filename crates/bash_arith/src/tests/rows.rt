@@ -293,7 +293,7 @@ x;DivZero 1;x=1/0\n\
 x;NegativeExponent 1;x=2**-1\n\
 x;1 1;x=y=1;y=1";
 
-// Arrays and subscripts.
+// Arrays and subscripts. Where a negative subscript has no index bash prints a message, and goes on with 0.
 pub(super) const ELEMENTS: &str = "\
 a;4 1;a[0]=4 a[1]=5 a[2]=6\n\
 a+1;5 1;a[0]=4 a[1]=5 a[2]=6\n\
@@ -515,9 +515,9 @@ pub(super) const FORMS: &str = "\
 
 // Constants with a digit that their base has not: up to base 35, and above it.
 pub(super) const DIGITS: &str = "\
-08; 09; 018; 1a; 0x; 0xg; 0X; 1_; 2#2; 3#3; 4#4; 5#5; 6#6; 7#7; 8#8; 9#9; 10#a; 11#b; 12#c; 13#d; 14#e; \
-15#f; 16#g; 17#h; 18#i; 19#j; 20#k; 21#l; 22#m; 23#n; 24#o; 25#p; 26#q; 27#r; 28#s; 29#t; 30#u; 31#v; \
-32#w; 33#x; 34#y; 35#z";
+08; 09; 018; 1a; 0xg; 1_; 2#2; 3#3; 4#4; 5#5; 6#6; 7#7; 8#8; 9#9; 10#a; 11#b; 12#c; 13#d; 14#e; 15#f; \
+16#g; 17#h; 18#i; 19#j; 20#k; 21#l; 22#m; 23#n; 24#o; 25#p; 26#q; 27#r; 28#s; 29#t; 30#u; 31#v; 32#w; \
+33#x; 34#y; 35#z";
 
 pub(super) const DIGITS_ABOVE: &str = "\
 36#@; 37#B; 38#C; 39#D; 40#E; 41#F; 42#G; 43#H; 44#I; 45#J; 46#K; 47#L; 48#M; 49#N; 50#O; 51#P; 52#Q; \
