@@ -127,12 +127,16 @@ fn read_variable(alloc: Global, field: &[u8]) -> Result<Option<(Bytes, Bytes)>, 
     if value.is_empty() {
         return Ok(None);
     }
-    let name = read_text(alloc, &Bytes::from_slice(alloc, name)?)?;
-    let value = read_text(alloc, &Bytes::from_slice(alloc, value)?)?;
-    match (name, value) {
-        (Some(name), Some(value)) if is_name(name.as_slice()) => Ok(Some((name, value))),
-        _ => Ok(None),
+    let Some(name) = read_text(alloc, &Bytes::from_slice(alloc, name)?)? else {
+        return Ok(None);
+    };
+    let Some(value) = read_text(alloc, &Bytes::from_slice(alloc, value)?)? else {
+        return Ok(None);
+    };
+    if !is_name(name.as_slice()) {
+        return Ok(None);
     }
+    Ok(Some((name, value)))
 }
 
 // The variables that all the fields give, if each gives one.
