@@ -2,4 +2,5 @@ mod Compiled
 mod Executed
 mod Left
 mod Powers
+mod Rows
 mod Single

@@ -76,8 +76,8 @@ module _ (n : ℕ) where
 abbrev pub NextFalls : Next → Type 0
 NextFalls next = (k : ℕ) (stack : Stack) (s : State) → left_of (next k stack s) ≤ s.left
 
--- an instruction was executed: what goes on behind it does so with this stack and state; so it does not after a fault, and where
--- memory is wanted, at most its steps are used
+-- an instruction was executed: what goes on behind it does so with this stack and state. After a fault nothing goes on,
+-- and where memory is wanted, at most the steps of all are used.
 abbrev pub Continues : Result ℕ ArithErr → (Next → Outcome) → Stack → State → Type 0
 Continues (Ok k) done stack s = (next : Next) → done next ≡ next k stack s
 Continues (Err e.Memory) done stack s = (next : Next) → NextFalls next → left_of (done next) ≤ s.left

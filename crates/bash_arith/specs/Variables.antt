@@ -29,8 +29,8 @@ abbrev pub text_at : Option ℕ → Option Value → Result Text VarErr
 text_at None v = Err refusal.BadSubscript
 text_at (Some i) v = Ok (unwrap_or (map.get (elements_of v) i) [])
 
--- the text of the element that a subscript means: a name alone means element 0, a text is its own element 0, and a negative
--- subscript has the greatest index plus one added
+-- the text of the element that a subscript means: a name alone means element 0, a text is its own element 0, and a
+-- negative subscript has the greatest index plus one added
 abbrev pub element_text : Text → Option ℤ → Store → Result Text VarErr
 element_text name at s = text_at (index_of (elements_of (get name s)) (unwrap_or at (pos 0))) (get name s)
 

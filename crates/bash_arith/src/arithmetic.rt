@@ -15,12 +15,12 @@ const MAX_NESTED: u8 = 64;
 /// The value of an arithmetic expression, in numbers of 64 bits that wrap (Bash Reference Manual, "Shell Arithmetic").
 ///
 /// The whole text is read before anything of it is evaluated. A name, or a name with a subscript, means its text,
-/// evaluated as an expression of its own; each such evaluation uses one step of the budget, and takes it on `steps` too.
-/// Nothing else uses steps. Assignments change `vars`.
+/// evaluated as an expression of its own; each such evaluation uses one step of the budget, and takes it on `steps`
+/// too. Nothing else uses steps. Assignments change `vars`.
 ///
 /// # Errors
-/// The first fault: those of reading come before all others, from left to right. The assignments made before it stand.
-/// `Memory` may come at any time; at most the steps that the whole evaluation uses are used then.
+/// The first fault: those of reading the text come before all others, from left to right. The assignments made before
+/// it stand. `Memory` may come at any time; at most the steps that the whole evaluation uses are used then.
 #[tactic(auto, unfolding(crate::specs::Value::arithmetic))]
 pub fn eval<L: Ledger>(
     alloc: Global,
