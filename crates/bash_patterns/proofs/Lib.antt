@@ -1,3 +1,4 @@
+pub mod Alternatives
 pub mod Combined
 pub mod Cuts
 pub mod Derived

@@ -1,6 +1,6 @@
--- What is left of a pattern behind the bytes that a walk has come past: its derivatives (Brzozowski, "Derivatives of regular
--- expressions", 1964).
-use Rattle.std.specs.Prelude.{◌≡◌, ℕ, Bool, true, ◌∷◌, ◌++◌, reverse}
+-- What is left of a pattern behind the bytes that a walk has come past: its derivatives (Brzozowski, "Derivatives of
+-- regular expressions", 1964).
+use Rattle.std.specs.Prelude.{◌≡◌, ℕ, Bool, List, ◌∷◌, ◌++◌, map, reverse}
 use Rattle.eb_bytes.specs.Text.{Text}
 use Rattle.bash_patterns.specs.declared.left.Left.{Left}
 use Rattle.bash_patterns.specs.declared.left.Left.TheVariants as left
@@ -8,6 +8,7 @@ use Rattle.bash_patterns.specs.declared.way.Way.{Way}
 use Rattle.bash_patterns.specs.declared.way.Way.TheVariants.{Backward, Forward}
 use Rattle.bash_patterns.specs.Form.{Form, Empty, Whatever, Both, Choice, AnyTimes, Not, form_of}
 use Rattle.bash_patterns.specs.Matching.{matches}
+use Rattle.bash_patterns.specs.Reading.{choice_of}
 use Rattle.bash_patterns.specs.Turned.{turned}
 
 -- the form as a walk meets it that takes its bytes one after another
@@ -26,6 +27,14 @@ left_form w (left.Repeated' a p n) = Both (left_form w p) (AnyTimes (met w (form
 left_form w (left.Either' a p b q) = Choice (left_form w p) (left_form w q)
 left_form w (left.NoneOf' a p) = Not (left_form w p)
 
+-- the form of one or another of what is left
+unfoldable pub any_form : Way → List Left → Form
+any_form w ls = choice_of (map (left_form w) ls)
+
+-- the same of two lists
+abbrev pub both_form : Way → List Left → List Left → Form
+both_form w ls ms = Choice (any_form w ls) (any_form w ms)
+
 -- the second form matches exactly what the first matches behind this byte
 pub record IsBehind (b : ℕ) (p q : Form) : Type 0 where
   pub each : (t : Text) → matches q t ≡ matches p (b ∷ t)
@@ -33,10 +42,6 @@ pub record IsBehind (b : ℕ) (p q : Form) : Type 0 where
 -- both match the same texts
 pub record IsSame (p q : Form) : Type 0 where
   pub each : (t : Text) → matches p t ≡ matches q t
-
--- what the first matches, the second matches too
-pub record IsWithin (p q : Form) : Type 0 where
-  pub each : (t : Text) → matches p t ≡ true → matches q t ≡ true
 
 -- the form matches what, read from its end and put before this text, passes the test
 pub record IsAhead (m : Text → Bool) (t : Text) (p : Form) : Type 0 where

@@ -1,10 +1,12 @@
-ghost use Rattle.std.specs.Prelude.{◌≡◌, true, [], ◌∷◌, ◌++◌, OnOk};
+ghost use Rattle.std.specs.Prelude.{◌≡◌, [], ◌∷◌, ◌++◌, OnOk};
+ghost use Rattle.std.specs.declared.cmp.Ordering.TheVariants.{Equal};
 ghost use Rattle.std.specs.List.{list_any};
 ghost use Rattle.bash_patterns.specs.Brackets.{in_bracket, in_member};
 
 use crate::class::Class;
 use eb_bytes::Memory;
 use std::alloc::Global;
+use std::cmp::Ordering;
 use std::marker::Model;
 
 /// A member of a bracket expression.
@@ -27,14 +29,18 @@ impl Member {
         }
     }
 
-    /// Whether it is the other member.
-    pub fn is_same(self, other: Member) -> bool
-        ensures { result ≡ true → self ≡ other }
+    /// The order of members. Which comes first counts for nothing.
+    pub fn compare(self, other: Member) -> Ordering
+        ensures { result ≡ Equal → self ≡ other }
     {
         match (self, other) {
-            (Member::Range(low, high), Member::Range(first, last)) => low == first && high == last,
-            (Member::Class(class), Member::Class(another)) => class == another,
-            _ => false,
+            (Member::Range(low, high), Member::Range(first, last)) => match low.cmp(&first) {
+                Ordering::Equal => high.cmp(&last),
+                order => order,
+            },
+            (Member::Class(class), Member::Class(another)) => class.compare(another),
+            (Member::Range(_, _), Member::Class(_)) => Ordering::Less,
+            (Member::Class(_), Member::Range(_, _)) => Ordering::Greater,
         }
     }
 }
@@ -90,11 +96,11 @@ impl Members {
         self.items.iter().any(|member| member.has(byte))
     }
 
-    /// Whether these are the other members.
-    pub fn is_same(&self, other: &Members) -> bool
-        ensures { result ≡ true → self.now ≡ other.now }
+    /// The order of lists of members. Which comes first counts for nothing.
+    pub fn compare(&self, other: &Members) -> Ordering
+        ensures { result ≡ Equal → self.now ≡ other.now }
     {
-        same_members(self.items.as_slice(), other.items.as_slice())
+        compare_members(self.items.as_slice(), other.items.as_slice())
     }
 }
 
@@ -107,14 +113,23 @@ impl Bracket {
     }
 }
 
-fn same_members(members: &[Member], others: &[Member]) -> bool
-    ensures { result ≡ true → members.now ≡ others.now }
+fn compare_members(members: &[Member], others: &[Member]) -> Ordering
+    ensures { result ≡ Equal → members.now ≡ others.now }
 {
-    match members {
-        [] => others.is_empty(),
-        [member, members @ ..] => match others {
-            [other, others @ ..] => member.is_same(*other) && same_members(members, others),
-            [] => false,
-        },
+    let (mut left, mut others_left) = (members, others);
+    'members: loop {
+        match (left, others_left) {
+            ([], []) => return Ordering::Equal,
+            ([], _) => return Ordering::Less,
+            (_, []) => return Ordering::Greater,
+            ([member, more @ ..], [other, others_more @ ..]) => {
+                let order = member.compare(*other);
+                if order.is_ne() {
+                    return order;
+                }
+                left = more;
+                others_left = others_more;
+            }
+        }
     }
 }

@@ -1,8 +1,10 @@
 ghost use Rattle.std.specs.Prelude.{◌≡◌, length};
+ghost use Rattle.std.specs.declared.cmp.Ordering.TheVariants.{Equal};
 ghost use Rattle.bash_patterns.specs.Bracketed.{all_classes, begins_unquoted, class_among, class_text};
 ghost use Rattle.bash_patterns.specs.Brackets.{in_class};
 
 use crate::symbol::Symbol;
+use std::cmp::Ordering;
 
 /// The character classes of POSIX, in ASCII.
 #[derive(Clone, Copy, Debug, PartialEq, Eq)]
@@ -54,6 +56,19 @@ impl Class {
             Class::Space => b":space:]",
             Class::Upper => b":upper:]",
             Class::Xdigit => b":xdigit:]",
+        }
+    }
+
+    /// The order of classes, by their names. Which comes first counts for nothing.
+    pub fn compare(self, other: Class) -> Ordering
+        ensures { result ≡ Equal → self ≡ other }
+    {
+        if self == other {
+            return Ordering::Equal;
+        }
+        match self.text().cmp(other.text()) {
+            Ordering::Less => Ordering::Less,
+            _ => Ordering::Greater,
         }
     }
 

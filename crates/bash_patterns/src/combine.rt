@@ -1,61 +1,124 @@
-ghost use Rattle.std.specs.Prelude.{◌≡◌, IfOk};
+ghost use Rattle.std.specs.Prelude.{◌≡◌, ◌+◌, ◌-◌, ◌<◌, ◌≤◌, [], length, OnOk, IfOk, IfNone, IfSome};
 ghost use Rattle.bash_patterns.specs.declared.way.Way.{Way};
 ghost use Rattle.bash_patterns.specs.Form.{AnyTimes, Both, Choice, Not, form_of};
-ghost use Rattle.bash_patterns.specs.Left.{IsSame, left_form, met};
+ghost use Rattle.bash_patterns.specs.Left.{IsSame, any_form, both_form, left_form, met};
 
 use crate::left::Left;
 use crate::node::Node;
 use eb_bytes::Memory;
 use std::alloc::Global;
+use std::cmp::Ordering;
 
-/// One or the other, where no alternative is kept that is seen to lie within the others.
+/// One or the other. Where both are trees of alternatives in order, it is one too, and has none twice.
 ///
 /// # Errors
 /// `Memory` where there is no room for it.
-#[tactic(auto, using(crate::proofs::Combined::same_Choice), unfolding(crate::specs::Left::left_form))]
+#[tactic(auto, using(crate::proofs::Combined::same_beside_never, crate::proofs::Combined::same_never_beside, crate::proofs::Combined::same_all_beside, crate::proofs::Combined::same_beside_all), unfolding(crate::specs::Left::left_form))]
 pub fn either<'n>(alloc: Global, first: Left<'n>, second: Left<'n>) -> Result<Left<'n>, Memory>
     ensures { IfOk result (λ left. (way : Way) → IsSame (left_form way left) (Choice (left_form way first.entry) (left_form way second.entry))) }
 {
-    match first {
-        Left::Either(near, far) => {
-            let rest = either(alloc, Box::into_inner(far), second)?;
-            either(alloc, Box::into_inner(near), rest)
-        }
-        _ => with_alternative(alloc, first, second),
+    match (first, second) {
+        (Left::Never, left) | (left, Left::Never) => Ok(left),
+        (Left::Anything, _) => Ok(Left::Anything),
+        (_, Left::Anything) => Ok(Left::Anything),
+        (first, second) => merged(alloc, first, second),
     }
 }
 
-// One more alternative.
-#[tactic(auto, using(crate::proofs::Combined::same_first, crate::proofs::Combined::same_second, crate::proofs::Combined::same_itself), unfolding(crate::specs::Left::left_form))]
-fn with_alternative<'n>(alloc: Global, part: Left<'n>, rest: Left<'n>) -> Result<Left<'n>, Memory>
-    ensures { IfOk result (λ left. (way : Way) → IsSame (left_form way left) (Choice (left_form way part.entry) (left_form way rest.entry))) }
+// The alternatives of two trees, in order, where both have theirs in order.
+#[tactic(auto, using(crate::proofs::Alternatives::same_merged))]
+fn merged<'n>(alloc: Global, first: Left<'n>, second: Left<'n>) -> Result<Left<'n>, Memory>
+    ensures { IfOk result (λ left. (way : Way) → IsSame (left_form way left) (Choice (left_form way first.entry) (left_form way second.entry))) }
 {
-    if part.is_within(&rest) {
-        return Ok(rest);
-    }
-    if rest.is_within(&part) {
-        return Ok(part);
-    }
-    inserted(alloc, part, rest)
+    let mut firsts = Vec::new(alloc);
+    push_alternatives(&mut firsts, first)?;
+    let mut seconds = Vec::new(alloc);
+    push_alternatives(&mut seconds, second)?;
+    let mut parts = merge(alloc, firsts, seconds)?;
+    let count = parts.len();
+    gather(alloc, &mut parts, count)
 }
 
-// One more alternative, where half of the others lie on either side: the halves change places, so that the depth grows with
-// the logarithm of their number.
-#[tactic(auto, using(crate::proofs::Combined::same_itself, crate::proofs::Combined::same_inserted), unfolding(crate::specs::Left::left_form))]
-fn inserted<'n>(alloc: Global, part: Left<'n>, rest: Left<'n>) -> Result<Left<'n>, Memory>
-    ensures { IfOk result (λ left. (way : Way) → IsSame (left_form way left) (Choice (left_form way part.entry) (left_form way rest.entry))) }
+// Puts the alternatives of a tree at the end.
+#[tactic(auto, using(crate::proofs::Alternatives::any_pushed, crate::proofs::Alternatives::same_further), unfolding(crate::specs::Left::left_form))]
+fn push_alternatives<'n>(parts: &mut Vec<Left<'n>>, left: Left<'n>) -> Result<(), Memory>
+    ensures { OnOk result ((way : Way) → IsSame (any_form way parts.new.items) (Choice (any_form way parts.old.items) (left_form way left.entry))) }
 {
-    match rest {
+    match left {
         Left::Either(near, far) => {
-            let more = inserted(alloc, part, Box::into_inner(far))?;
-            Ok(Left::Either(Box::new(alloc, more)?, near))
+            push_alternatives(parts, Box::into_inner(near))?;
+            push_alternatives(parts, Box::into_inner(far))
         }
         _ => {
-            let part = Box::new(alloc, part)?;
-            let rest = Box::new(alloc, rest)?;
-            Ok(Left::Either(part, rest))
+            parts.push(left)?;
+            Ok(())
         }
     }
+}
+
+// The parts of two lists, the last in order first; one of two that are the same.
+#[tactic(auto, using(crate::proofs::Alternatives::merge_begun, crate::proofs::Alternatives::merge_next, crate::proofs::Alternatives::merge_done))]
+fn merge<'n>(
+    alloc: Global,
+    mut firsts: Vec<Left<'n>>,
+    mut seconds: Vec<Left<'n>>,
+) -> Result<Vec<Left<'n>>, Memory>
+    ensures { IfOk result (λ parts. (way : Way) → IsSame (any_form way parts.items) (both_form way firsts.entry.items seconds.entry.items)) }
+{
+    let mut parts = Vec::new(alloc);
+    while let Some(part) = take_last(&mut firsts, &mut seconds)? {
+        parts.push(part)?;
+    }
+    Ok(parts)
+}
+
+// Takes the last in order from two lists that are in order; from both, where theirs are the same.
+#[tactic(auto, using(crate::proofs::Alternatives::taken_none, crate::proofs::Alternatives::taken_alone, crate::proofs::Alternatives::taken_other, crate::proofs::Alternatives::taken_twice, crate::proofs::Alternatives::taken_first, crate::proofs::Alternatives::taken_second))]
+fn take_last<'n>(
+    firsts: &mut Vec<Left<'n>>,
+    seconds: &mut Vec<Left<'n>>,
+) -> Result<Option<Left<'n>>, Memory>
+    ensures taken { IfOk result (λ part. IfSome part (λ left. (way : Way) → IsSame (both_form way firsts.old.items seconds.old.items) (Choice (left_form way left) (both_form way firsts.new.items seconds.new.items)))) }
+    ensures none { IfOk result (λ part. IfNone part ((way : Way) → IsSame (both_form way firsts.old.items seconds.old.items) (any_form way []))) }
+    ensures fewer { IfOk result (λ part. IfSome part (λ _. length firsts.new.items + length seconds.new.items < length firsts.old.items + length seconds.old.items)) }
+{
+    match (firsts.pop(), seconds.pop()) {
+        (None, None) => Ok(None),
+        (Some(first), None) => Ok(Some(first)),
+        (None, Some(second)) => Ok(Some(second)),
+        (Some(first), Some(second)) => match first.compare(&second) {
+            Ordering::Equal => Ok(Some(first)),
+            Ordering::Greater => {
+                seconds.push(second)?;
+                Ok(Some(first))
+            }
+            Ordering::Less => {
+                firsts.push(first)?;
+                Ok(Some(second))
+            }
+        },
+    }
+}
+
+// The last so many of these parts, the last of them first, as a tree whose depth grows with the logarithm of their
+// number.
+#[tactic(auto, using(crate::proofs::Alternatives::any_popped, crate::proofs::Alternatives::any_none, crate::proofs::Alternatives::same_gathered), unfolding(crate::specs::Left::left_form))]
+fn gather<'n>(alloc: Global, parts: &mut Vec<Left<'n>>, count: usize) -> Result<Left<'n>, Memory>
+    ensures same { IfOk result (λ left. (way : Way) → IsSame (any_form way parts.old.items) (Choice (left_form way left) (any_form way parts.new.items))) }
+    ensures rest { OnOk result (length parts.new.items ≤ length parts.old.items - count) }
+{
+    if count <= 1 {
+        return match parts.pop() {
+            Some(part) => Ok(part),
+            None => Ok(Left::Never),
+        };
+    }
+    let half = count / 2;
+    let first = gather(alloc, parts, half)?;
+    let second = gather(alloc, parts, count - half)?;
+    let first = Box::new(alloc, first)?;
+    let second = Box::new(alloc, second)?;
+    Ok(Left::Either(first, second))
 }
 
 /// What is left of one tree, and another behind it. Each alternative gets it behind itself, so that equal ones are seen.

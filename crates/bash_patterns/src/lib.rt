@@ -13,17 +13,16 @@ mod join;
 mod laws;
 mod left;
 mod node;
+mod order;
 mod pattern;
 mod places;
 mod read;
-mod same;
 mod symbol;
 mod test;
 #[cfg(test)]
 mod tests;
 mod walk;
 mod way;
-mod within;
 
 pub use error::PatErr;
 pub use laws::repeats_are_any_parts;
