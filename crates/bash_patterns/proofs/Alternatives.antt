@@ -1,11 +1,13 @@
 -- Lists of alternatives: parts put at their end, taken from there, and merged.
-use Rattle.std.proofs.Common.{◌≡◌, Bool, true, false, ◌||◌, List, [], ◌∷◌, ◌++◌, length, map, refl, ap, sym, ◌∙◌, append-nil, arith}
+use Rattle.std.proofs.Common.{◌≡◌, Bool, true, false, ◌||◌, ◌≤◌, List, [], ◌∷◌, ◌++◌, ◌-◌, drop, get_or, length, map, take, refl, ap, subst, sym, ◌∙◌, append-nil, arith}
+use Rattle.std.proofs.lemmas.List.{take_all}
 use Rattle.eb_bytes.specs.Text.{Text}
 use Rattle.bash_patterns.specs.declared.left.Left.{Left}
 use Rattle.bash_patterns.specs.declared.way.Way.{Way}
 use Rattle.bash_patterns.specs.Form.{Form, Whatever, Choice, Not}
-use Rattle.bash_patterns.specs.Left.{IsSame, any_form, both_form, left_form}
+use Rattle.bash_patterns.specs.Left.{IsSame, IsWithin, any_form, both_form, left_form}
 use Rattle.bash_patterns.specs.Matching.{matches}
+use Rattle.bash_patterns.proofs.Combined.{within_first, within_second}
 use Rattle.bash_patterns.proofs.Cuts.{or-false, or-or}
 use Rattle.bash_patterns.proofs.Mirrored.{or-turned}
 
@@ -37,10 +39,15 @@ unfolding matches
 any_popped w ls ms l e =
     record { each = λ t. ap (λ v. matches (any_form w v) t) e ∙ any-pushed w ms l t ∙ or-turned (matches (any_form w ms) t) (matches (left_form w l) t) }
 
-pub same_gathered : (p q r s u : Form) → IsSame u (Choice p s) → IsSame s (Choice q r) → IsSame u (Choice (Choice p q) r)
+pub same_gathered : (p q r s u : Form) → IsSame u (Choice q s) → IsSame s (Choice p r) → IsSame u (Choice (Choice p q) r)
 unfolding matches
 same_gathered p q r s u h l =
-    record { each = λ t. h.each t ∙ ap (λ v. matches p t || v) (l.each t) ∙ sym (or-or (matches p t) (matches q t) (matches r t)) }
+    record { each = λ t. h.each t ∙ ap (λ v. matches q t || v) (l.each t) ∙ on (matches p t) (matches q t) (matches r t) }
+  where
+    on : (x y z : Bool) → (y || (x || z)) ≡ ((x || y) || z)
+    on true true z = refl
+    on true false z = refl
+    on false y z = refl
 
 -- ---- taken from one of two
 
@@ -82,6 +89,19 @@ taken_none w [] [] d e = record { each = λ t. refl }
 taken_none w (l ∷ ls) ms d e = absurd (omega arith)
 taken_none w [] (m ∷ ms) d e = absurd (omega arith)
 
+-- ---- within one of them
+
+pub within_next : (w : Way) (p : Form) (ls : List Left) (l : Left) → 1 ≤ length ls → l ≡ get_or ls 0 l → IsWithin p (left_form w l) → IsWithin p (any_form w ls)
+unfolding any_form
+within_next w p [] l n e h = absurd (omega arith)
+within_next w p (m ∷ ls) l n e h = within_first p (left_form w m) (any_form w ls) (subst (λ v. IsWithin p (left_form w v)) e h)
+
+pub within_later : (w : Way) (p : Form) (ls : List Left) → IsWithin p (any_form w (take (length ls - 1) (drop 1 ls))) → IsWithin p (any_form w ls)
+unfolding any_form
+within_later w p [] h = h
+within_later w p (m ∷ ls) h =
+    within_second p (left_form w m) (any_form w ls) (subst (λ v. IsWithin p (any_form w v)) (take_all (length (m ∷ ls) - 1) ls (omega arith)) h)
+
 -- ---- merged
 
 pub merge_begun : (w : Way) (ps ls ms : List Left) → ps ≡ [] → IsSame (Choice (any_form w ps) (both_form w ls ms)) (both_form w ls ms)
@@ -98,8 +118,32 @@ unfolding any_form matches
 merge_done w ps ls ms p h k =
     record { each = λ t. sym (or-false (matches (any_form w ps) t)) ∙ ap (λ v. matches (any_form w ps) t || v) (sym (k.each t)) ∙ h.each t }
 
-pub same_merged : (w : Way) (ls ms ps ps' : List Left) (l p q : Form) → IsSame (any_form w ls) (Choice (any_form w []) p) → IsSame (any_form w ms) (Choice (any_form w []) q) → IsSame (any_form w ps) (both_form w ls ms) → IsSame (any_form w ps) (Choice l (any_form w ps')) → length ps' ≡ 0 → IsSame l (Choice p q)
+pub thin_begun : (w : Way) (ks ps : List Left) → ks ≡ [] → IsSame (both_form w ks ps) (any_form w ps)
 unfolding any_form matches
-same_merged w ls ms ps [] l p q hl hm h k e =
-    record { each = λ t. sym (or-false (matches l t)) ∙ sym (k.each t) ∙ h.each t ∙ ap (λ v. v || matches (any_form w ms) t) (hl.each t) ∙ ap (λ v. matches p t || v) (hm.each t) }
-same_merged w ls ms ps (n ∷ ps') l p q hl hm h k e = absurd (omega arith)
+thin_begun w ks ps e = record { each = λ t. ap (λ v. matches (both_form w v ps) t) e }
+
+pub thin_kept : (w : Way) (ks ks' ps ps' : List Left) (l : Left) (p : Form) → IsSame (both_form w ks ps) p → ps ≡ ps' ++ l ∷ [] → ks' ≡ ks ++ l ∷ [] → IsSame (both_form w ks' ps') p
+unfolding matches
+thin_kept w ks ks' ps ps' l p h d e =
+    record { each = λ t. ap (λ v. matches (any_form w v) t || matches (any_form w ps') t) e ∙ ap (λ v. v || matches (any_form w ps') t) (any-pushed w ks l t) ∙ or-or (matches (any_form w ks) t) (matches (left_form w l) t) (matches (any_form w ps') t) ∙ ap (λ v. matches (any_form w ks) t || v) (sym ((any_popped w ps ps' l d).each t)) ∙ h.each t }
+
+pub thin_dropped : (w : Way) (ks ps ps' : List Left) (l : Left) (p : Form) → IsSame (both_form w ks ps) p → ps ≡ ps' ++ l ∷ [] → IsWithin (left_form w l) (both_form w ks ps') → IsSame (both_form w ks ps') p
+unfolding matches
+thin_dropped w ks ps ps' l p h d k =
+    record { each = λ t. on (matches (any_form w ks) t) (matches (left_form w l) t) (matches (any_form w ps') t) (k.each t) ∙ ap (λ v. matches (any_form w ks) t || v) (sym ((any_popped w ps ps' l d).each t)) ∙ h.each t }
+  where
+    on : (x y z : Bool) → (y ≡ true → (x || z) ≡ true) → (x || z) ≡ (x || (y || z))
+    on true y z f = refl
+    on false true z f = f refl
+    on false false z f = refl
+
+pub thin_done : (w : Way) (ks ps : List Left) (p : Form) → length ps ≡ 0 → IsSame (both_form w ks ps) p → IsSame (any_form w ks) p
+unfolding any_form matches
+thin_done w ks [] p e h = record { each = λ t. sym (or-false (matches (any_form w ks) t)) ∙ h.each t }
+thin_done w ks (l ∷ ps) p e h = absurd (omega arith)
+
+pub same_merged : (w : Way) (ls ms ps ks ks' : List Left) (l p q : Form) → IsSame (any_form w ls) (Choice (any_form w []) p) → IsSame (any_form w ms) (Choice (any_form w []) q) → IsSame (any_form w ps) (both_form w ls ms) → IsSame (any_form w ks) (any_form w ps) → IsSame (any_form w ks) (Choice l (any_form w ks')) → length ks' ≡ 0 → IsSame l (Choice p q)
+unfolding any_form matches
+same_merged w ls ms ps ks [] l p q hl hm h i k e =
+    record { each = λ t. sym (or-false (matches l t)) ∙ sym (k.each t) ∙ i.each t ∙ h.each t ∙ ap (λ v. v || matches (any_form w ms) t) (hl.each t) ∙ ap (λ v. matches p t || v) (hm.each t) }
+same_merged w ls ms ps ks (n ∷ ks') l p q hl hm h i k e = absurd (omega arith)

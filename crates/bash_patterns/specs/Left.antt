@@ -1,6 +1,6 @@
 -- What is left of a pattern behind the bytes that a walk has come past: its derivatives (Brzozowski, "Derivatives of
 -- regular expressions", 1964).
-use Rattle.std.specs.Prelude.{◌≡◌, ℕ, Bool, List, ◌∷◌, ◌++◌, map, reverse}
+use Rattle.std.specs.Prelude.{◌≡◌, ℕ, Bool, true, List, ◌∷◌, ◌++◌, map, reverse}
 use Rattle.eb_bytes.specs.Text.{Text}
 use Rattle.bash_patterns.specs.declared.left.Left.{Left}
 use Rattle.bash_patterns.specs.declared.left.Left.TheVariants as left
@@ -42,6 +42,10 @@ pub record IsBehind (b : ℕ) (p q : Form) : Type 0 where
 -- both match the same texts
 pub record IsSame (p q : Form) : Type 0 where
   pub each : (t : Text) → matches p t ≡ matches q t
+
+-- what the first matches, the second matches too
+pub record IsWithin (p q : Form) : Type 0 where
+  pub each : (t : Text) → matches p t ≡ true → matches q t ≡ true
 
 -- the form matches what, read from its end and put before this text, passes the test
 pub record IsAhead (m : Text → Bool) (t : Text) (p : Form) : Type 0 where

@@ -1,13 +1,16 @@
-ghost use Rattle.std.specs.Prelude.{◌≡◌, ◌+◌, ◌-◌, ◌<◌, ◌≤◌, [], length, OnOk, IfOk, IfNone, IfSome};
+ghost use Rattle.std.specs.Prelude.{◌≡◌, ◌+◌, ◌-◌, ◌<◌, ◌≤◌, true, [], length, OnOk, IfOk, IfNone, IfSome};
 ghost use Rattle.bash_patterns.specs.declared.way.Way.{Way};
 ghost use Rattle.bash_patterns.specs.Form.{AnyTimes, Both, Choice, Not, form_of};
-ghost use Rattle.bash_patterns.specs.Left.{IsSame, any_form, both_form, left_form, met};
+ghost use Rattle.bash_patterns.specs.Left.{IsSame, IsWithin, any_form, both_form, left_form, met};
 
 use crate::left::Left;
 use crate::node::Node;
 use eb_bytes::Memory;
 use std::alloc::Global;
 use std::cmp::Ordering;
+
+// Of so many alternatives each is compared with each.
+const FEW: usize = 8;
 
 /// One or the other. Where both are trees of alternatives in order, it is one too, and has none twice.
 ///
@@ -34,7 +37,8 @@ fn merged<'n>(alloc: Global, first: Left<'n>, second: Left<'n>) -> Result<Left<'
     push_alternatives(&mut firsts, first)?;
     let mut seconds = Vec::new(alloc);
     push_alternatives(&mut seconds, second)?;
-    let mut parts = merge(alloc, firsts, seconds)?;
+    let parts = merge(alloc, firsts, seconds)?;
+    let mut parts = thin(alloc, parts)?;
     let count = parts.len();
     gather(alloc, &mut parts, count)
 }
@@ -100,8 +104,31 @@ fn take_last<'n>(
     }
 }
 
-// The last so many of these parts, the last of them first, as a tree whose depth grows with the logarithm of their
-// number.
+// The parts, the last of them first. Of few, none is kept that is seen to lie within another: to compare each with each
+// takes the square of their number.
+#[tactic(auto, using(crate::proofs::Alternatives::thin_begun, crate::proofs::Alternatives::thin_kept, crate::proofs::Alternatives::thin_dropped, crate::proofs::Alternatives::thin_done))]
+fn thin<'n>(alloc: Global, mut parts: Vec<Left<'n>>) -> Result<Vec<Left<'n>>, Memory>
+    ensures { IfOk result (λ kept. (way : Way) → IsSame (any_form way kept.items) (any_form way parts.entry.items)) }
+{
+    let are_few = parts.len() <= FEW;
+    let mut kept = Vec::new(alloc);
+    while let Some(part) = parts.pop() {
+        if !(are_few && is_needless(&part, kept.as_slice(), parts.as_slice())) {
+            kept.push(part)?;
+        }
+    }
+    Ok(kept)
+}
+
+// Whether this part is seen to lie within another.
+#[tactic(auto, using(crate::proofs::Combined::within_first, crate::proofs::Combined::within_second))]
+fn is_needless<'n>(part: &Left<'n>, kept: &[Left<'n>], parts: &[Left<'n>]) -> bool
+    ensures { result ≡ true → (way : Way) → IsWithin (left_form way part.now) (both_form way kept.now parts.now) }
+{
+    part.is_within_one(kept) || part.is_within_one(parts)
+}
+
+// The last so many of these parts as a tree whose depth grows with the logarithm of their number.
 #[tactic(auto, using(crate::proofs::Alternatives::any_popped, crate::proofs::Alternatives::any_none, crate::proofs::Alternatives::same_gathered), unfolding(crate::specs::Left::left_form))]
 fn gather<'n>(alloc: Global, parts: &mut Vec<Left<'n>>, count: usize) -> Result<Left<'n>, Memory>
     ensures same { IfOk result (λ left. (way : Way) → IsSame (any_form way parts.old.items) (Choice (left_form way left) (any_form way parts.new.items))) }
@@ -114,8 +141,8 @@ fn gather<'n>(alloc: Global, parts: &mut Vec<Left<'n>>, count: usize) -> Result<
         };
     }
     let half = count / 2;
-    let first = gather(alloc, parts, half)?;
-    let second = gather(alloc, parts, count - half)?;
+    let second = gather(alloc, parts, half)?;
+    let first = gather(alloc, parts, count - half)?;
     let first = Box::new(alloc, first)?;
     let second = Box::new(alloc, second)?;
     Ok(Left::Either(first, second))

@@ -23,6 +23,7 @@ mod test;
 mod tests;
 mod walk;
 mod way;
+mod within;
 
 pub use error::PatErr;
 pub use laws::repeats_are_any_parts;
