@@ -12,6 +12,27 @@ use Rattle.bash_patterns.proofs.Cuts.{or-and, or-false, some_cut-empty, some_cut
 pub same_itself : (p : Form) → IsSame p p
 same_itself p = record { each = λ t. refl }
 
+pub same_second : (p q : Form) → IsWithin p q → IsSame q (Choice p q)
+unfolding matches
+same_second p q h = record { each = λ t. on (matches p t) (matches q t) (h.each t) }
+  where
+    on : (x y : Bool) → (x ≡ true → y ≡ true) → y ≡ (x || y)
+    on true y f = f refl
+    on false y f = refl
+
+pub same_first : (p q : Form) → IsWithin q p → IsSame p (Choice p q)
+unfolding matches
+same_first p q h = record { each = λ t. on (matches p t) (matches q t) (h.each t) }
+  where
+    on : (x y : Bool) → (y ≡ true → x ≡ true) → x ≡ (x || y)
+    on true y f = refl
+    on false true f = f refl
+    on false false f = refl
+
+pub same_turned : (p q : Form) → IsSame (Choice q p) (Choice p q)
+unfolding matches
+same_turned p q = record { each = λ t. or-turned (matches q t) (matches p t) }
+
 -- nothing matches the first, or any text the second
 
 pub same_beside_never : (q : Form) → IsSame q (Choice (Not Whatever) q)

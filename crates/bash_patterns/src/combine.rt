@@ -24,7 +24,32 @@ pub fn either<'n>(alloc: Global, first: Left<'n>, second: Left<'n>) -> Result<Le
         (Left::Never, left) | (left, Left::Never) => Ok(left),
         (Left::Anything, _) => Ok(Left::Anything),
         (_, Left::Anything) => Ok(Left::Anything),
-        (first, second) => merged(alloc, first, second),
+        (first, second) => if first.is_one() && second.is_one() {
+            pair(alloc, first, second)
+        } else {
+            merged(alloc, first, second)
+        },
+    }
+}
+
+// Two alternatives in order, or one where the other is seen to lie within it.
+#[tactic(auto, using(crate::proofs::Combined::same_first, crate::proofs::Combined::same_second, crate::proofs::Combined::same_itself, crate::proofs::Combined::same_turned), unfolding(crate::specs::Left::left_form))]
+fn pair<'n>(alloc: Global, first: Left<'n>, second: Left<'n>) -> Result<Left<'n>, Memory>
+    ensures { IfOk result (λ left. (way : Way) → IsSame (left_form way left) (Choice (left_form way first.entry) (left_form way second.entry))) }
+{
+    if first.is_within(&second) {
+        return Ok(second);
+    }
+    if second.is_within(&first) {
+        return Ok(first);
+    }
+    let is_less = first.compare(&second).is_lt();
+    let first = Box::new(alloc, first)?;
+    let second = Box::new(alloc, second)?;
+    if is_less {
+        Ok(Left::Either(first, second))
+    } else {
+        Ok(Left::Either(second, first))
     }
 }
 

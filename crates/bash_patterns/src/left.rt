@@ -29,6 +29,11 @@ pub enum Left<'n> {
 }
 
 impl<'n> Left<'n> {
+    /// Whether it is no tree of alternatives.
+    pub fn is_one(&self) -> bool {
+        !matches!(self, Left::Either(_, _))
+    }
+
     /// Whether the empty text matches.
     #[tactic(auto, using(crate::proofs::Derived::met_empty, crate::proofs::Derived::and_none), unfolding(crate::specs::Left::left_form, crate::specs::Matching::matches))]
     pub fn may_end(&self) -> bool
