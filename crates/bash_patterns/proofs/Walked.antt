@@ -1,4 +1,5 @@
--- A step of the walk, from what was kept one byte before: it says where the form can begin, and keeps the same for the next.
+-- A step of the walk, from what was kept one byte before: it says where the form can begin, and keeps the same for the
+-- next.
 use Rattle.std.proofs.Common.{◌≡◌, Bool, true, false, ◌&&◌, ◌||◌, List, [], ◌∷◌, ◌++◌, refl, ap, sym, ◌∙◌, append_assoc}
 use Rattle.std.proofs.lemmas.Bool.{and_parts}
 use Rattle.eb_bytes.specs.Text.{Text}

@@ -45,8 +45,8 @@ abbrev pub past_bracket : Symbol → List Symbol → Option Read → (ℕ → Op
 past_bracket s ss None go = None
 past_bracket s ss (Some r) go = keeping s (go (length ss - length r.rest))
 
--- what a symbol does where so many parentheses stand open in the group; `go` cuts what stands behind it, by the number of
--- open parentheses and of symbols that belong to the alternative whatever they are
+-- what a symbol does where so many parentheses stand open in the group; `go` cuts what stands behind it, by the number
+-- of open parentheses and of symbols that belong to the alternative whatever they are
 abbrev pub cut_by : Role → ℕ → Symbol → List Symbol → (ℕ → ℕ → Option Cut) → Option Cut
 cut_by role.GroupOpening depth s ss go = keeping s (go (suc depth) 0)
 cut_by role.GroupClosing zero s ss go = Some (record { first = []; others = []; rest = ss })
@@ -72,8 +72,8 @@ abbrev pub parted : Option Cut → Option Parted
 parted None = None
 parted (Some c) = Some (record { list = c.first ∷ c.others; rest = c.rest })
 
--- the alternatives of the group whose opening parenthesis stands before these symbols, and what stands behind the group;
--- none, where the group never closes
+-- the alternatives of the group whose opening parenthesis stands before these symbols, and what stands behind the
+-- group; none, where the group never closes
 unfoldable pub alternatives_at : List Symbol → Option Parted
 alternatives_at ss = parted (cut_from 0 0 ss)
 

@@ -1,5 +1,5 @@
--- Where in a text a pattern matches: the least and the greatest place among all places. The pattern stands here as what it
--- says of each text.
+-- Where in a text a pattern matches: the least and the greatest place among all places. The pattern stands here as what
+-- it says of each text.
 use Rattle.std.specs.Prelude.{◌≡◌, ℕ, ◌-◌, ◌<◌, ◌≤◌, Bool, true, false, List, take, drop, length, Option, Some, None, slice_index_or}
 use Rattle.eb_bytes.specs.Text.{Text}
 use Rattle.bash_patterns.specs.Matching.{some_cut}

@@ -12,8 +12,8 @@ abbrev pub from_unquoted : Bool → ℕ → (Bool → List Symbol) → List Symb
 from_unquoted true b rest = Quoted b ∷ rest false
 from_unquoted false b rest = if b == 92 then rest true else Unquoted b ∷ rest false
 
--- the symbols of marks, where `quotes` says whether an unquoted backslash stands before them; one that nothing follows is
--- itself, and Empty and Break add nothing
+-- the symbols of marks, where `quotes` says whether an unquoted backslash stands before them; one that nothing follows
+-- is itself, and Empty and Break add nothing
 abbrev pub symbols_behind : Bool → List Mark → List Symbol
 symbols_behind true [] = Quoted 92 ∷ []
 symbols_behind false [] = []

@@ -30,8 +30,8 @@ is_plain (AnyTimes p) = is_plain p
 is_plain (OnceOrMore p) = is_plain p
 is_plain (Not p) = false
 
--- what a form gives before a text, where `after` says whether what follows the form matches there, and what was kept for
--- the forms before it
+-- what a form gives before a text, where `after` says whether what follows the form matches there, and what was kept
+-- for the forms before it
 pub record Peek : Type 0 where
   pub value : Bool
   pub rest : List Bool

@@ -10,7 +10,7 @@ use std::alloc::Global;
 use std::cmp::Ordering;
 
 // Of so many alternatives each is compared with each.
-const FEW: usize = 8;
+const FEW: usize = 4;
 
 /// One or the other. Where both are trees of alternatives in order, it is one too, and has none twice.
 ///
@@ -33,20 +33,20 @@ pub fn either<'n>(alloc: Global, first: Left<'n>, second: Left<'n>) -> Result<Le
 }
 
 // Two alternatives in order, or one where the other is seen to lie within it.
-#[tactic(auto, using(crate::proofs::Combined::same_first, crate::proofs::Combined::same_second, crate::proofs::Combined::same_itself, crate::proofs::Combined::same_turned), unfolding(crate::specs::Left::left_form))]
+#[tactic(auto, using(crate::proofs::Combined::within_itself, crate::proofs::Combined::same_first, crate::proofs::Combined::same_second, crate::proofs::Combined::same_itself, crate::proofs::Combined::same_turned), unfolding(crate::specs::Left::left_form))]
 fn pair<'n>(alloc: Global, first: Left<'n>, second: Left<'n>) -> Result<Left<'n>, Memory>
     ensures { IfOk result (λ left. (way : Way) → IsSame (left_form way left) (Choice (left_form way first.entry) (left_form way second.entry))) }
 {
-    if first.is_within(&second) {
+    let order = first.compare(&second);
+    if order.is_eq() || first.is_within(&second) {
         return Ok(second);
     }
     if second.is_within(&first) {
         return Ok(first);
     }
-    let is_less = first.compare(&second).is_lt();
     let first = Box::new(alloc, first)?;
     let second = Box::new(alloc, second)?;
-    if is_less {
+    if order.is_lt() {
         Ok(Left::Either(first, second))
     } else {
         Ok(Left::Either(second, first))
@@ -173,7 +173,8 @@ fn gather<'n>(alloc: Global, parts: &mut Vec<Left<'n>>, count: usize) -> Result<
     Ok(Left::Either(first, second))
 }
 
-/// What is left of one tree, and another behind it. Each alternative gets it behind itself, so that equal ones are seen.
+/// What is left of one tree, and another behind it. Each alternative gets it behind itself, so that equal ones are
+/// seen.
 ///
 /// # Errors
 /// `Memory` where there is no room for it.

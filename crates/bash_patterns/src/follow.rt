@@ -12,8 +12,8 @@ use crate::way::{Goal, Way};
 use eb_bytes::Memory;
 use std::alloc::Global;
 
-/// Walks the whole text with what is left of the node, and says for each place on the way, the one where the walk begins
-/// first, whether the node can begin there.
+/// Walks the whole text with what is left of the node, and says for each place on the way, the one where the walk
+/// begins first, whether the node can begin there.
 ///
 /// # Errors
 /// `Memory` where there is no room for the walk.

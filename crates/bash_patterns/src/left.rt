@@ -6,8 +6,8 @@ ghost use Rattle.bash_patterns.specs.Matching.{matches};
 
 use crate::node::Node;
 
-/// What is left of a tree behind the bytes that a walk has come past. What the walk has not come to yet is borrowed from
-/// the tree.
+/// What is left of a tree behind the bytes that a walk has come past. What the walk has not come to yet is borrowed
+/// from the tree.
 #[derive(Debug, Drop)]
 pub enum Left<'n> {
     /// What no text matches.

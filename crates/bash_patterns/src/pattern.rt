@@ -27,9 +27,9 @@ pub struct Pattern {
 }
 
 impl Pattern {
-    /// Compiles a pattern (Bash Reference Manual, "Pattern Matching"). Quoted marks stand for themselves, Empty and Break
-    /// marks for nothing, and an unquoted backslash quotes what follows. Extended groups are read only where `extended` says
-    /// so. The pattern keeps the allocator for its walks.
+    /// Compiles a pattern (Bash Reference Manual, "Pattern Matching"). Quoted marks stand for themselves, Empty and
+    /// Break marks for nothing, and an unquoted backslash quotes what follows. Extended groups are read only where
+    /// `extended` says so. The pattern keeps the allocator for its walks.
     ///
     /// # Errors
     /// `TooDeep` where more than 64 groups are nested, `Memory` where there is no room for the pattern.

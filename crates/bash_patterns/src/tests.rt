@@ -3,8 +3,8 @@ use eb_bytes::{Mark, Marked, Memory};
 use std::alloc::Global;
 use std::test::Fail;
 
-// The expected values are those of bash 5.2, with LC_ALL=C. In a pattern a backslash stands before a quoted byte, `%` for
-// an unquoted backslash, and `~` for a pair of quotes round nothing.
+// The expected values are those of bash 5.2, with LC_ALL=C. In a pattern a backslash stands before a quoted byte, `%`
+// for an unquoted backslash, and `~` for a pair of quotes round nothing.
 
 // A pattern, a text, and whether the pattern matches it: bytes, `?`, `*`, and what is quoted.
 const STARS_AND_QUOTES: [(&str, &str, bool); 42] = [
@@ -310,7 +310,8 @@ const CLASSES: [(&str, &[u8], &[u8]); 12] = [
     ("[[:xdigit:]]", b"09AFaf", b"/:@G`g\x80\xff"),
 ];
 
-// What the searches find: the shortest and the longest prefix, the shortest and the longest suffix, and the first match.
+// What the searches find: the shortest and the longest prefix, the shortest and the longest suffix, and the first
+// match.
 type Found = (
     Option<usize>,
     Option<usize>,
