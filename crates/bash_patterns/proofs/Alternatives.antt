@@ -1,5 +1,5 @@
 -- Lists of alternatives: parts put at their end, taken from there, and merged.
-use Rattle.std.proofs.Common.{◌≡◌, Bool, true, false, ◌||◌, ◌≤◌, List, [], ◌∷◌, ◌++◌, ◌-◌, drop, get_or, length, map, take, refl, ap, subst, sym, ◌∙◌, append-nil, arith}
+use Rattle.std.proofs.Common.{◌≡◌, Bool, true, false, ◌||◌, ◌≤◌, List, [], ◌∷◌, ◌++◌, ◌-◌, drop, get_or, length, take, refl, ap, subst, sym, ◌∙◌, append-nil, arith}
 use Rattle.std.proofs.lemmas.List.{take_all}
 use Rattle.eb_bytes.specs.Text.{Text}
 use Rattle.bash_patterns.specs.declared.left.Left.{Left}
