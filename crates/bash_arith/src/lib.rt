@@ -6,6 +6,8 @@ mod error;
 mod machine;
 mod number;
 mod stack;
+#[cfg(test)]
+mod tests;
 mod variable;
 
 pub use arithmetic::eval;
