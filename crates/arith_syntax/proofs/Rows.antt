@@ -84,7 +84,7 @@ abbrev refused : Refusal → Result Expression Refusal
 refused e = Err e
 
 abbrev bad : List String
-bad = "08" ∷ "0x" ∷ "10#" ∷ "1#0" ∷ "65#1" ∷ "010#1" ∷ "1a" ∷ "2#2" ∷ "()" ∷ "(1" ∷ "1)" ∷ "1 2" ∷ "1=2" ∷ "(x)=1" ∷ "x++=1" ∷ "1+x=2" ∷ "x?1:y=2" ∷ "x?1" ∷ "x?:1" ∷ "x--5" ∷ "5--x" ∷ "x++ ++" ∷ "a [1]" ∷ "a[1" ∷ "$x" ∷ "x**=2" ∷ "x==" ∷ "1;2" ∷ []
+bad = "08" ∷ "0x" ∷ "10#" ∷ "1#0" ∷ "65#1" ∷ "010#1" ∷ "1a" ∷ "2#2" ∷ "()" ∷ "(1" ∷ "1)" ∷ "1 2" ∷ "1=2" ∷ "(x)=1" ∷ "x++=1" ∷ "1+x=2" ∷ "x?1:y=2" ∷ "x?1" ∷ "x?:1" ∷ "x--5" ∷ "5--x" ∷ "x++ ++" ∷ "++x++" ∷ "++x++ 5" ∷ "--x--y" ∷ "++a[0]-- 1" ∷ "a [1]" ∷ "a[1" ∷ "$x" ∷ "x**=2" ∷ "x==" ∷ "1;2" ∷ []
 
 not_read : map (read 64) bad ≡ map (λ text. refused Syntax) bad
 unfolding expression after_blanks reading whole joined assignment conditional binary power operand step_before step_behind constant_of written symbol_at grown joint_at name_at int_wrap

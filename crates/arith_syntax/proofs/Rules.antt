@@ -361,11 +361,11 @@ meaning_stepped {n} inside t {u} {v} {old} {mid} {new} {place} {d} p h e = recor
   kind = refl;
 }
 
-pub stepping_put : {n : ℕ} (inside : Rules) (t : Text) {u : Text} {old mid new : Code} {place : Place} (d : Direction) → PutsPlace n (variable inside t) old mid place u → new ≡ mid ++ i.Step First d place ∷ [] → Puts n (stepping inside d t) old new false u
+pub stepping_put : {n : ℕ} (inside : Rules) (t : Text) {u : Text} {old mid new : Code} {place : Place} (d : Direction) → PutsPlace n (variable inside t) old mid place u → step_behind u ≡ None → new ≡ mid ++ i.Step First d place ∷ [] → Puts n (stepping inside d t) old new false u
 unfolding code_of
-stepping_put {n} inside t {u} {old} {mid} {new} {place} d p e = record {
+stepping_put {n} inside t {u} {old} {mid} {new} {place} d p h e = record {
   expression = Stepped First d p.variable;
-  reads = rw p.reads refl;
+  reads = rw (p.reads, h) refl;
   puts = behind_both _ _ _ p.puts (e ∙ ap (λ x. mid ++ i.Step First d x ∷ []) p.names);
   kind = refl;
 }

@@ -191,9 +191,14 @@ whole inside t = joined (assignment inside) 11 t
 abbrev pub subscript : Rules → Text → Reading Expression
 subscript inside t = if begins 93 (after_blanks t) then Ok (Nothing, t) else whole inside t
 
+-- a `++` or `--` behind a variable binds more tightly than one before it, and leaves no variable for that
+abbrev pub stepped_first : Direction → Variable → Text → Option (Direction × Text) → Reading Expression
+stepped_first d v t None = Ok (Stepped First d v, t)
+stepped_first d v t (Some s) = Err Syntax
+
 -- a variable, stepped first
 abbrev pub stepping : Rules → Direction → Text → Reading Expression
-stepping inside d t = and_then (variable inside t) (λ v u. Ok (Stepped First d v, u))
+stepping inside d t = and_then (variable inside t) (λ v u. stepped_first d v u (step_behind u))
 
 -- ---- nesting
 

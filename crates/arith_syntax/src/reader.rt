@@ -394,7 +394,7 @@ fn meaning<'t>(
     }
 }
 
-// A variable, stepped first.
+// A variable, stepped first. A step behind it binds more tightly, and leaves no variable for the first.
 #[cycle(reader)]
 fn stepping<'t>(
     alloc: Global,
@@ -406,11 +406,16 @@ fn stepping<'t>(
     ensures { Reads levels (spec.stepping (inner levels) direction text.now) code.old.items result code.new.items }
 {
     let variable = variable(alloc, text, levels, code)?;
-    push(
-        Instruction::Step(When::First, direction, variable.place),
-        code,
-    )?;
-    Ok(value(variable.rest))
+    match step_behind(variable.rest) {
+        Some(_) => Err(ReadErr::Refused(Refusal::Syntax)),
+        None => {
+            push(
+                Instruction::Step(When::First, direction, variable.place),
+                code,
+            )?;
+            Ok(value(variable.rest))
+        }
+    }
 }
 
 // A name, with its subscript where a `[` stands right behind it.

@@ -510,8 +510,8 @@ pub(super) const OPERANDS: &str = "\
 // Choices, assignments and steps that are not well formed, and bytes that no expression has.
 pub(super) const FORMS: &str = "\
 1?2; 1:2; ?1:2; x?:1; 1?2:; x?1:y=2; 1=2; =1; x=; x+=; x==; x=!; 1=>2; (x)=1; x++=1; ++x=1; -x=1; !x=1; \
-1+x=2; x**=2; x&&=2; x--5; x++1; 5--x; 5++y; x++y; (x)++; 1++; ++x++; --x--; x++ ++; $x; 1.5; 1'; \\1; \
-@; #1; {1}; `x`";
+1+x=2; x**=2; x&&=2; x--5; x++1; 5--x; 5++y; x++y; (x)++; 1++; ++x++; ++x++ 5; --x--y; --x--; x++ ++; \
+$x; 1.5; 1'; \\1; @; #1; {1}; `x`";
 
 // Constants with a digit that their base has not: up to base 35, and above it.
 pub(super) const DIGITS: &str = "\

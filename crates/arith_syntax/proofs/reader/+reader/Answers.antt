@@ -142,13 +142,13 @@ primary-returns-then-is_ascii_digit t c =
 pub signed-returns : goal.signed-returns
 signed-returns t c = as_value (signed_put (inner c.args.levels) c.args.text.now (sym c.in-Some.ensures) c.in_ok-read.ensures c.in_ok-push.ensures) c.value.ensures.kind c.value.ensures.rest
 
-pub stepping-returns : goal.stepping-returns
-stepping-returns t c = as_value (stepping_put (inner c.args.levels) c.args.text.now c.args.direction c.in_ok-variable.ensures c.in_ok-push.ensures) c.value.ensures.kind c.value.ensures.rest
-
 pub subscript-returns-then-begins : goal.subscript-returns-then-begins
 subscript-returns-then-begins t c =
     let e : c.after_blanks.result.now ≡ after_blanks c.args.text.now = c.after_blanks.ensures in
     as_value (subscript_empty (inner c.args.levels) c.args.text.now (ap (begins 93) (sym e) ∙ sym c.begins.ensures ∙ c.if-begins.true) c.in_ok-push.ensures) c.value.ensures.kind c.value.ensures.rest
+
+pub stepping-returns : goal.stepping-returns
+stepping-returns t c = as_value (stepping_put (inner c.args.levels) c.args.text.now c.args.direction c.in_ok-variable.ensures (sym c.in-None.ensures) c.in_ok-push-in-None.ensures) c.value.ensures.kind c.value.ensures.rest
 
 pub variable-returns-in_default-past_byte : goal.variable-returns-in_default-past_byte
 variable-returns-in_default-past_byte t c = named_put (inner c.args.levels) c.args.text.now (sym c.in-Some.ensures) (sym c.in_default-past_byte.ensures) (ap (λ x. record { name = x; subscripted = false; levels = c.args.levels }) c.in_ok-name.ensures)
