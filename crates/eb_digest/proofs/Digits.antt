@@ -15,7 +15,7 @@ use Rattle.eb_digest.specs.Digest.{IsDigest, IsDigestText, digest_text, is_lower
 abbrev digit_of : ℕ → ℕ
 digit_of v = if nat_lt v 10 then v + 48 else v + 87
 
--- the test of the first n places of the table
+-- the test of the first n entries of the table
 abbrev all_right : ℕ → Bool
 all_right zero = true
 all_right (suc n) = (slice_index lower_digits n == digit_of n) && all_right n
@@ -31,7 +31,7 @@ all_right-at (suc n) k h lt =
           rw e (eqb-true _ _ parts.0)
     ]
 
--- what a lower-case digit stands for
+-- what a lower-case digit means
 record Reads (c : ℕ) : Type 0 where
   pub value : ℕ
   pub small : value < 16
@@ -86,7 +86,7 @@ lower_pairs i (a ∷ b ∷ rest) even h =
       rw (high, low, da.written, db.written, ← ih.2) refl,
     )
 
--- what 32 lower-case digits stand for
+-- what 32 lower-case digits mean
 pub digest_text-read : (s : List ℕ) → IsDigestText s
     → (bytes : List ℕ) × (decode_sized s 16 ≡ Ok bytes) × (s ≡ digest_text bytes)
 digest_text-read s h =

@@ -1,6 +1,7 @@
--- A digest's bytes, and the text that stands for them.
+-- A digest's bytes, and the text that writes them.
 use Rattle.std.specs.Prelude.{◌≡◌, ℕ, Bool, length, nat_le, ◌&&◌, ◌||◌}
 use Rattle.std.specs.List.{AllPass}
+use Rattle.eb_bytes.specs.Class.{is_digit}
 use Rattle.eb_bytes.specs.Text.{Text}
 use Rattle.hex.specs.Hex.{IsBytes, encode_lower}
 
@@ -13,9 +14,9 @@ pub record IsDigest (digest : Text) : Type 0 where
 abbrev pub digest_text : Text → Text
 digest_text digest = encode_lower digest
 
--- one of the digits 0 to 9, which are 48 to 57, and a to f, which are 97 to 102
+-- a lower-case hexadecimal digit: 0 to 9, or a to f, which are 97 to 102
 abbrev pub is_lower_digit : ℕ → Bool
-is_lower_digit c = (nat_le 48 c && nat_le c 57) || (nat_le 97 c && nat_le c 102)
+is_lower_digit c = is_digit c || (nat_le 97 c && nat_le c 102)
 
 -- 32 lower-case hexadecimal digits
 pub record IsDigestText (text : Text) : Type 0 where

@@ -1,4 +1,4 @@
-//! MD5 digests, and the 32 hexadecimal digits that stand for one.
+//! MD5 digests, and the 32 hexadecimal digits that write one.
 #![tactic(auto)]
 
 mod digest;
