@@ -8,7 +8,7 @@ use Rattle.bash_split.specs.declared.role.Role.{Role}
 use Rattle.bash_split.specs.declared.role.Role.TheVariants.{Part, Blank, Separator, Border}
 use Rattle.bash_split.specs.Fields.{role, is_part, is_joined, fields, fields_from}
 use Rattle.bash_split.specs.Laws.{stays, divides, is_separator, is_separator_role, has_marks, without_empty_end}
-use Rattle.bash_split.proofs.Kept.{both}
+use Rattle.std.proofs.lemmas.Bool.{and_parts}
 
 -- the parts of such a list: the first of them is dropped only where there are no marks at all
 record FirstPart (ifs : Text) (ms : List Mark) : Type 0 where
@@ -22,7 +22,7 @@ record FirstPart (ifs : Text) (ms : List Mark) : Type 0 where
 first_part : (ifs : Text) (ms : List Mark) → list_all (λ m. stays ifs m || is_separator ifs m) ms ≡ true → FirstPart ifs ms
 first_part ifs [] each = record { first = []; rest = []; is = refl; kept = refl; joins = refl; clear = λ none. refl }
 first_part ifs (m ∷ ms) each =
-    let split = both (stays ifs m || is_separator ifs m) (list_all (λ m. stays ifs m || is_separator ifs m) ms) each in
+    let split = and_parts (stays ifs m || is_separator ifs m) (list_all (λ m. stays ifs m || is_separator ifs m) ms) each in
     by_role (role ifs m) refl split.0 (first_part ifs ms split.1)
   where
     by_role : (r : Role) → role ifs m ≡ r → (is_part r || is_separator_role r) ≡ true → FirstPart ifs ms → FirstPart ifs (m ∷ ms)
@@ -34,7 +34,7 @@ first_part ifs (m ∷ ms) each =
 pub parts-fields : (ifs : Text) (ms : List Mark) → list_all (λ m. stays ifs m || is_separator ifs m) ms ≡ true → fields ifs ms ≡ without_empty_end (slice_split (divides ifs) ms)
 parts-fields ifs [] each = refl
 parts-fields ifs (m ∷ ms) each =
-    let split = both (stays ifs m || is_separator ifs m) (list_all (λ m. stays ifs m || is_separator ifs m) ms) each in
+    let split = and_parts (stays ifs m || is_separator ifs m) (list_all (λ m. stays ifs m || is_separator ifs m) ms) each in
     let part = first_part ifs ms split.1 in
     let rest : fields ifs ms ≡ cond (has_marks ms) (part.first ∷ without_empty_end part.rest) [] = parts-fields ifs ms split.1 ∙ ap without_empty_end part.is ∙ part.kept in
     rw (part.is, part.joins, rest) (by_role (role ifs m) split.0 (has_marks ms) part.first part.rest part.kept part.clear)

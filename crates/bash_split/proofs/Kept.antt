@@ -1,6 +1,6 @@
 -- What stays in the fields of a list of marks.
 use Rattle.std.proofs.Common.{◌≡◌, Bool, true, false, List, [], ◌∷◌, filter, cond, refl, ap}
-use Rattle.std.specs.Prelude.{◌&&◌}
+use Rattle.std.proofs.lemmas.Bool.{and_parts}
 use Rattle.std.specs.List.{flat_map, list_all}
 use Rattle.eb_bytes.specs.declared.marked.Mark.{Mark}
 use Rattle.eb_bytes.specs.declared.marked.Mark.TheVariants.{Literal, Result, Quoted, Empty, Break}
@@ -9,10 +9,6 @@ use Rattle.bash_split.specs.declared.role.Role.{Role}
 use Rattle.bash_split.specs.declared.role.Role.TheVariants.{Part, Blank, Separator, Border}
 use Rattle.bash_split.specs.Fields.{role, is_part, is_joined, fields, fields_from}
 use Rattle.bash_split.specs.Laws.{stays, is_fixed}
-
-pub both : (a b : Bool) → (a && b) ≡ true → (a ≡ true) × (b ≡ true)
-both true b h = (refl, h)
-both false b h = absurd (cc)
 
 -- ---- the marks of all fields
 
@@ -45,7 +41,7 @@ each-stays ifs (m ∷ ms) = by_role (role ifs m) refl (is_joined ifs ms) (fields
 -- ---- marks that all stay
 
 pub one-field : (ifs : Text) (m : Mark) (ms : List Mark) → list_all (stays ifs) (m ∷ ms) ≡ true → fields ifs (m ∷ ms) ≡ (m ∷ ms) ∷ []
-one-field ifs m [] all = by_role (role ifs m) (both (is_part (role ifs m)) true all).0
+one-field ifs m [] all = by_role (role ifs m) (and_parts (is_part (role ifs m)) true all).0
   where
     by_role : (r : Role) → is_part r ≡ true → fields_from r m false [] ≡ (m ∷ []) ∷ []
     by_role Part stay = refl
@@ -53,8 +49,8 @@ one-field ifs m [] all = by_role (role ifs m) (both (is_part (role ifs m)) true 
     by_role Separator stay = absurd (cc)
     by_role Border stay = absurd (cc)
 one-field ifs m (n ∷ ms) all =
-    let split = both (is_part (role ifs m)) (list_all (stays ifs) (n ∷ ms)) all in
-    let next = both (is_part (role ifs n)) (list_all (stays ifs) ms) split.1 in
+    let split = and_parts (is_part (role ifs m)) (list_all (stays ifs) (n ∷ ms)) all in
+    let next = and_parts (is_part (role ifs n)) (list_all (stays ifs) ms) split.1 in
     by_role (role ifs m) (is_joined ifs (n ∷ ms)) (fields ifs (n ∷ ms)) split.0 (rw next.0 refl) (one-field ifs n ms split.1)
   where
     by_role : (r : Role) (next : Bool) (fs : List (List Mark)) → is_part r ≡ true → next ≡ true → fs ≡ (n ∷ ms) ∷ [] → fields_from r m next fs ≡ (m ∷ n ∷ ms) ∷ []
@@ -73,6 +69,6 @@ fixed-stays ifs Break fixed = absurd (cc)
 pub all-fixed : (ifs : Text) (ms : List Mark) → list_all is_fixed ms ≡ true → list_all (stays ifs) ms ≡ true
 all-fixed ifs [] all = refl
 all-fixed ifs (m ∷ ms) all =
-    let split = both (is_fixed m) (list_all is_fixed ms) all in
+    let split = and_parts (is_fixed m) (list_all is_fixed ms) all in
     let here : is_part (role ifs m) ≡ true = fixed-stays ifs m split.0 in
     rw here (all-fixed ifs ms split.1)

@@ -9,14 +9,14 @@ use Rattle.bash_split.specs.declared.role.Role.{Role}
 use Rattle.bash_split.specs.declared.role.Role.TheVariants.{Part, Blank, Separator, Border}
 use Rattle.bash_split.specs.Fields.{role, is_part, is_joined, begins_with_part, separator_is_next, leads_to_separator, fields, fields_from}
 use Rattle.bash_split.specs.Laws.{divides, is_separator, is_separator_role, is_break, has_marks}
-use Rattle.bash_split.proofs.Kept.{both}
+use Rattle.std.proofs.lemmas.Bool.{and_parts}
 
 -- ---- no separator is next
 
 none-next : (ifs : Text) (ms : List Mark) → list_all (λ m. not (is_separator ifs m)) ms ≡ true → separator_is_next ifs ms ≡ false
 none-next ifs [] none = refl
 none-next ifs (m ∷ ms) none =
-    let split = both (not (is_separator ifs m)) (list_all (λ m. not (is_separator ifs m)) ms) none in
+    let split = and_parts (not (is_separator ifs m)) (list_all (λ m. not (is_separator ifs m)) ms) none in
     by_role (role ifs m) split.0 (none-next ifs ms split.1)
   where
     by_role : (r : Role) → not (is_separator_role r) ≡ true → separator_is_next ifs ms ≡ false → leads_to_separator r (separator_is_next ifs ms) ≡ false
@@ -49,7 +49,7 @@ first_run ifs (m ∷ ms) = by_role (role ifs m) refl (slice_split (divides ifs) 
 pub runs-fields : (ifs : Text) (ms : List Mark) → list_all (λ m. not (is_separator ifs m)) ms ≡ true → fields ifs ms ≡ filter has_marks (slice_split (divides ifs) ms)
 runs-fields ifs [] none = refl
 runs-fields ifs (m ∷ ms) none =
-    let split = both (not (is_separator ifs m)) (list_all (λ m. not (is_separator ifs m)) ms) none in
+    let split = and_parts (not (is_separator ifs m)) (list_all (λ m. not (is_separator ifs m)) ms) none in
     let run = first_run ifs ms in
     let rest : fields ifs ms ≡ filter has_marks (run.first ∷ run.rest) = runs-fields ifs ms split.1 ∙ ap (λ (rs : List (List Mark)). filter has_marks rs) run.is in
     let joins : is_joined ifs ms ≡ has_marks run.first = rw (none-next ifs ms split.1, ← run.begins) (or_false (has_marks run.first)) in

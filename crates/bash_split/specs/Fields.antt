@@ -3,7 +3,8 @@ use Rattle.std.specs.Prelude.{ℕ, Bool, true, false, ◌==◌, ◌||◌, List, 
 use Rattle.std.specs.List.{list_any, onto_first}
 use Rattle.eb_bytes.specs.declared.marked.Mark.{Mark}
 use Rattle.eb_bytes.specs.declared.marked.Mark.TheVariants.{Literal, Result, Quoted, Empty, Break}
-use Rattle.eb_bytes.specs.Text.{Text, is_space}
+use Rattle.eb_bytes.specs.Class.{is_space}
+use Rattle.eb_bytes.specs.Text.{Text}
 use Rattle.bash_split.specs.declared.role.Role.{Role}
 use Rattle.bash_split.specs.declared.role.Role.TheVariants.{Part, Blank, Separator, Border}
 
@@ -42,17 +43,17 @@ leads_to_separator Blank later = later
 leads_to_separator Part later = false
 leads_to_separator Border later = false
 
--- whether these marks begin with a separator, perhaps behind blanks
+-- whether these marks begin with a separator, perhaps after blanks
 abbrev pub separator_is_next : Text → List Mark → Bool
 separator_is_next ifs [] = false
 separator_is_next ifs (m ∷ ms) = leads_to_separator (role ifs m) (separator_is_next ifs ms)
 
--- whether a part in front of these marks belongs to the first of their fields: that field goes on behind it, or it is
--- the one that the next separator ends
+-- whether a part before these marks belongs to the first of their fields: that field goes on after it, or it is the
+-- one that the next separator ends
 abbrev pub is_joined : Text → List Mark → Bool
 is_joined ifs ms = begins_with_part ifs ms || separator_is_next ifs ms
 
--- the fields of a mark and of those behind it: a part belongs to the first field, or is one by itself; a separator ends
+-- the fields of a mark and of those after it: a part belongs to the first field, or is one by itself; a separator ends
 -- a field, which is empty unless a part stands before it; blanks and borders are in no field
 abbrev pub fields_from : Role → Mark → Bool → List (List Mark) → List (List Mark)
 fields_from Part m joined rest = if joined then onto_first m rest else (m ∷ []) ∷ rest

@@ -4,15 +4,15 @@ use crate::role::{Ifs, Role};
 use eb_bytes::{Mark, Marked, Memory};
 use std::alloc::Global;
 
-// Where a pass over marks stands.
+// Where a pass over marks is.
 #[derive(Drop)]
 pub(crate) enum Place {
     // In no field.
     Outside,
     // In a field that began with these marks.
     Within(Marked),
-    // Behind a field that blanks ended: a separator that comes next belongs to the same end.
-    Behind,
+    // After a field that blanks ended: a separator that comes next belongs to the same end.
+    After,
 }
 
 // A field of one mark.
@@ -28,7 +28,7 @@ impl Place {
     ghost use Rattle.eb_bytes.specs.Text.{Text};
     ghost use Rattle.bash_split.specs.Pass.{fields_left, TakesMark, TakesPart, TakesRole};
 
-    // Where the pass stands behind this mark. Fields that end are put at the end of `ended`.
+    // Where the pass is after this mark. Fields that end are put at the end of `ended`.
     pub(crate) fn take(
         self,
         alloc: Global,
@@ -46,7 +46,7 @@ impl Place {
         }
     }
 
-    // Behind a part of a field.
+    // After a part of a field.
     fn part(self, alloc: Global, mark: Mark) -> Result<Place, Memory>
         ensures { IfOk result (TakesPart mark self) }
     {
@@ -55,37 +55,37 @@ impl Place {
                 begun.push(mark)?;
                 Ok(Place::Within(begun))
             }
-            Place::Outside | Place::Behind => Ok(Place::Within(field_of(alloc, mark)?)),
+            Place::Outside | Place::After => Ok(Place::Within(field_of(alloc, mark)?)),
         }
     }
 
-    // Behind a blank.
+    // After a blank.
     fn blank(self, ended: &mut Vec<Marked>) -> Result<Place, Memory>
         ensures { IfOk result (TakesRole Role.Blank self ended.old.items ended.new.items) }
     {
         match self {
             Place::Within(begun) => {
                 ended.push(begun)?;
-                Ok(Place::Behind)
+                Ok(Place::After)
             }
             Place::Outside => Ok(Place::Outside),
-            Place::Behind => Ok(Place::Behind),
+            Place::After => Ok(Place::After),
         }
     }
 
-    // Behind a separator.
+    // After a separator.
     fn separator(self, alloc: Global, ended: &mut Vec<Marked>) -> Result<Place, Memory>
         ensures { IfOk result (TakesRole Role.Separator self ended.old.items ended.new.items) }
     {
         match self {
             Place::Within(begun) => ended.push(begun)?,
             Place::Outside => ended.push(Marked::new(alloc))?,
-            Place::Behind => {}
+            Place::After => {}
         }
         Ok(Place::Outside)
     }
 
-    // Behind a border.
+    // After a border.
     fn border(self, ended: &mut Vec<Marked>) -> Result<Place, Memory>
         ensures { IfOk result (TakesRole Role.Border self ended.old.items ended.new.items) }
     {

@@ -1,8 +1,7 @@
 ghost use Rattle.std.specs.Prelude.{◌≡◌};
-ghost use Rattle.eb_bytes.specs.Text.{is_space as is_space_byte};
 ghost use Rattle.bash_split.specs.Table.{IsTableOf};
 
-use eb_bytes::Mark;
+use eb_bytes::{Mark, is_space};
 use std::marker::Model;
 
 // What a mark does where marks are split.
@@ -16,13 +15,6 @@ pub(crate) enum Role {
     Separator,
     // It ends a field if one is begun.
     Border,
-}
-
-// Whether a byte of IFS separates as a blank.
-fn is_space(byte: u8) -> bool
-    ensures { result ≡ is_space_byte byte }
-{
-    matches!(byte, b' ' | b'\t' | b'\n')
 }
 
 // The table of the bytes that a text has.
