@@ -1,12 +1,13 @@
 -- A line that names its EAPI can be read in one way only.
-use Rattle.std.proofs.Common.{◌≡◌, ◌≢◌, ◌⊎◌, ℕ, ◌+◌, ◌<◌, Bool, true, false, cond, ◌==◌, ◌||◌, [], ◌∷◌, ◌++◌, length, take, drop, get_or, refl, ap, sym, ◌∙◌, subst, inl, inr, append_assoc, length-append, length-drop, arith, IsTrue, nat_lt, Option, Some, None, ◌≤◌, ◌-◌}
+use Rattle.std.proofs.Common.{◌≡◌, ◌≢◌, ◌⊎◌, ℕ, ◌+◌, ◌<◌, Bool, true, false, ◌==◌, ◌||◌, [], ◌∷◌, ◌++◌, length, take, drop, get_or, refl, ap, sym, ◌∙◌, subst, inl, inr, append_assoc, length-append, length-drop, arith, IsTrue, nat_lt, Option, Some, None, ◌≤◌, ◌-◌}
 use Rattle.std.specs.Option.{option_copied, MatchOption}
 use denote.Ref.{Bor}
 use Rattle.std.specs.Prelude.{codes}
 use Rattle.std.specs.List.{AllPass, prefix_len}
 use Rattle.std.proofs.lemmas.List.{take-append-drop, append_cancel_left, length-take, take_rest}
 use Rattle.std.proofs.lemmas.List.Elements.{All-append, All-cons, All-nil}
-use Rattle.eb_bytes.specs.Text.{Text, is_blank}
+use Rattle.eb_bytes.specs.Class.{is_blank}
+use Rattle.eb_bytes.specs.Text.{Text}
 use Rattle.eapi_tables.specs.EapiLine.{is_eapi_byte, IsMatched, IsQuote, IsTail, MatchesEapi, or_zero}
 use Rattle.eapi_tables.specs.EapiValue.{Closes, Finds, IsEnding, IsValueOf}
 use Rattle.eapi_tables.specs.TextEapi.{front_quote}

@@ -1,5 +1,5 @@
 -- The EAPI that is found from the left is the one that the pattern says.
-use Rattle.std.proofs.Common.{◌≡◌, ◌⊎◌, ℕ, ◌+◌, ◌<◌, Bool, true, false, cond, ◌==◌, ◌||◌, [], ◌∷◌, ◌++◌, length, take, drop, refl, ap, sym, ◌∙◌, inl, inr, arith, Option, Some, None, codes, nat_eq, length-append}
+use Rattle.std.proofs.Common.{◌≡◌, ◌⊎◌, ℕ, ◌<◌, Bool, true, false, cond, ◌==◌, ◌||◌, [], ◌∷◌, ◌++◌, length, take, drop, refl, ap, sym, ◌∙◌, inl, inr, arith, Option, Some, None, codes, nat_eq, length-append}
 use Rattle.std.specs.Cmp.Lexicographic.{pointwise}
 use Rattle.std.specs.List.{prefix_len}
 use Rattle.std.specs.Option.{MatchOption}
@@ -7,21 +7,22 @@ use Rattle.std.proofs.lemmas.List.{take-append-drop}
 use Rattle.std.proofs.lemmas.Option.{cond_some}
 use Rattle.std.proofs.lemmas.Slice.Eq.{bytes_eq-Decides}
 use Rattle.std.proofs.Math.Seq.{drop-append_seam, take-append_seam}
-use Rattle.eb_bytes.specs.Text.{Text, is_blank}
+use Rattle.eb_bytes.specs.Class.{is_blank}
+use Rattle.eb_bytes.specs.Text.{Text}
 use Rattle.eapi_tables.specs.EapiLine.{is_eapi_byte, opening_line, IsEapiText, IsMatched, IsQuote, IsUnmatched, MatchesEapi, or_zero}
 use Rattle.eapi_tables.specs.EapiValue.{Closes, IsEnding, IsValueOf}
-use Rattle.eapi_tables.specs.TextEapi.{behind_prefix, closed_group, eapi_of_group, eapi_of_line, ended_group, front_quote, group_behind, is_ending, line_group, may_end, text_eapi, value_group}
+use Rattle.eapi_tables.specs.TextEapi.{after_prefix, closed_group, eapi_of_group, eapi_of_line, ended_group, front_quote, group_after, is_ending, line_group, may_end, text_eapi, value_group}
 use Rattle.eapi_tables.proofs.EapiParts.{closes_is, closes_one, closes_rest, ending_blank, ending_cases, ending_comment, line_matches, line_one, line_value, value_closes}
 
 -- ---- prefixes
 
-behind_prefix-some : (p t r : Text) → behind_prefix p t ≡ Some r → t ≡ p ++ r
-behind_prefix-some p t r h =
+after_prefix-some : (p t r : Text) → after_prefix p t ≡ Some r → t ≡ p ++ r
+after_prefix-some p t r h =
     let both = cond_some (pointwise nat_eq (take (length p) t) p) (drop (length p) t) r h in
     sym (take-append-drop (length p) t) ∙ ap (λ x. x ++ drop (length p) t) ((bytes_eq-Decides (take (length p) t) p).0 both.0) ∙ ap (λ x. p ++ x) both.1
 
-behind_prefix-of : (p r : Text) → behind_prefix p (p ++ r) ≡ Some r
-behind_prefix-of p r =
+after_prefix-of : (p r : Text) → after_prefix p (p ++ r) ≡ Some r
+after_prefix-of p r =
     let same = (bytes_eq-Decides (take (length p) (p ++ r)) p).1 (take-append_seam p r) in
     rw same (ap (λ (x : Text). Some x) (drop-append_seam p r))
 
@@ -58,7 +59,7 @@ is_ending-of t h = elim (ending_cases t h) [
         absurd (omega (arith, whole, none, rest, longer, length-append (take (prefix_len is_blank t) t) (drop (prefix_len is_blank t) t)))
     on (x ∷ xs) e comment f longer = refl
 
--- ---- the group behind a quote or none
+-- ---- the group after a quote or none
 
 ended_group-some : (group g : Text) (o : Option Text) → ended_group group o ≡ Some g → (ending : Text) × (o ≡ Some ending) × IsEnding ending × (group ≡ g)
 ended_group-some group g None h = absurd (cc)
@@ -68,15 +69,15 @@ ended_group-some group g (Some ending) h =
 
 closed_group-sound : (quote t g : Text) → closed_group quote t ≡ Some g → Closes quote t g
 closed_group-sound quote t g h =
-    let r = ended_group-some (take (prefix_len is_eapi_byte t) t) g (behind_prefix quote (drop (prefix_len is_eapi_byte t) t)) h in
-    let parts : drop (prefix_len is_eapi_byte t) t ≡ quote ++ r.0 = behind_prefix-some quote (drop (prefix_len is_eapi_byte t) t) r.0 r.1 in
+    let r = ended_group-some (take (prefix_len is_eapi_byte t) t) g (after_prefix quote (drop (prefix_len is_eapi_byte t) t)) h in
+    let parts : drop (prefix_len is_eapi_byte t) t ≡ quote ++ r.0 = after_prefix-some quote (drop (prefix_len is_eapi_byte t) t) r.0 r.1 in
     closes_is quote t g (drop (prefix_len is_eapi_byte t) t) r.0 (prefix_len is_eapi_byte t) refl (sym r.3) refl parts r.2
 
 closed_group-of : (quote t g : Text) → IsQuote quote → Closes quote t g → closed_group quote t ≡ Some g
 closed_group-of quote t g q h =
     let r = closes_rest quote t g q h in
     let one : take (prefix_len is_eapi_byte t) t ≡ g = closes_one quote t g q h in
-    rw (r.1, behind_prefix-of quote r.0, is_ending-of r.0 r.2) (ap (λ (x : Text). Some x) one)
+    rw (r.1, after_prefix-of quote r.0, is_ending-of r.0 r.2) (ap (λ (x : Text). Some x) one)
 
 -- ---- values
 
@@ -112,19 +113,19 @@ value_group-of v g h =
 
 -- ---- lines
 
-group_behind-some : (o : Option Text) (g : Text) → group_behind o ≡ Some g → (value : Text) × (o ≡ Some value) × IsValueOf value g
-group_behind-some None g h = absurd (cc)
-group_behind-some (Some value) g h = (value, refl, value_group-sound value g h)
+group_after-some : (o : Option Text) (g : Text) → group_after o ≡ Some g → (value : Text) × (o ≡ Some value) × IsValueOf value g
+group_after-some None g h = absurd (cc)
+group_after-some (Some value) g h = (value, refl, value_group-sound value g h)
 
 line_group-sound : (line g : Text) → line_group line ≡ Some g → MatchesEapi line g
 line_group-sound line g h =
-    let r = group_behind-some (behind_prefix (codes "EAPI=") (drop (prefix_len is_blank line) line)) g h in
-    line_matches line r.0 g (behind_prefix-some (codes "EAPI=") (drop (prefix_len is_blank line) line) r.0 r.1) r.2
+    let r = group_after-some (after_prefix (codes "EAPI=") (drop (prefix_len is_blank line) line)) g h in
+    line_matches line r.0 g (after_prefix-some (codes "EAPI=") (drop (prefix_len is_blank line) line) r.0 r.1) r.2
 
 line_group-of : (line g : Text) → MatchesEapi line g → line_group line ≡ Some g
 line_group-of line g m =
     let v = line_value line g m in
-    ap (λ (t : Text). group_behind (behind_prefix (codes "EAPI=") t)) v.1 ∙ ap group_behind (behind_prefix-of (codes "EAPI=") v.0) ∙ value_group-of v.0 g v.2
+    ap (λ (t : Text). group_after (after_prefix (codes "EAPI=") t)) v.1 ∙ ap group_after (after_prefix-of (codes "EAPI=") v.0) ∙ value_group-of v.0 g v.2
 
 -- ---- texts
 

@@ -1,5 +1,5 @@
 -- The EAPIs, and which keys each of them has and accumulates (Package Manager Specification).
-use Rattle.std.specs.Prelude.{ℕ, ◌+◌, Bool, false, nat_le, [], ◌∷◌, Option, Some, None}
+use Rattle.std.specs.Prelude.{ℕ, ◌+◌, Bool, false, nat_le, List, [], ◌∷◌, Option, Some, None}
 use Rattle.std.specs.Option.{option_map_or}
 use Rattle.eb_bytes.specs.Text.{Text}
 use Rattle.eapi_tables.specs.declared.eapi.Eapi.{Eapi}
@@ -22,6 +22,10 @@ eapi_number E8 = 8
 -- the EAPI as an ebuild writes it, its one digit
 abbrev pub eapi_text : Eapi → Text
 eapi_text e = (48 + eapi_number e) ∷ []
+
+-- every EAPI, the oldest first
+abbrev pub all_eapis : List Eapi
+all_eapis = E0 ∷ E1 ∷ E2 ∷ E3 ∷ E4 ∷ E5 ∷ E6 ∷ E7 ∷ E8 ∷ []
 
 -- the first EAPI that has the key
 abbrev pub since_eapi : Key → ℕ

@@ -1,9 +1,10 @@
 -- The EAPI that an ebuild's text names (Package Manager Specification, 7.3.1): its first line with content is matched
 -- with `^[ \t]*EAPI=(['"]?)([A-Za-z0-9+_.-]*)\1[ \t]*([ \t]#.*)?$`.
-use Rattle.std.specs.Prelude.{◌≡◌, ◌⊎◌, ℕ, Bool, false, not, ◌==◌, ◌&&◌, ◌||◌, nat_le, [], ◌∷◌, ◌++◌, Option, codes, IsTrue, MatchOption}
+use Rattle.std.specs.Prelude.{◌≡◌, ◌⊎◌, ℕ, Bool, false, not, ◌==◌, ◌||◌, [], ◌∷◌, ◌++◌, Option, codes, IsTrue, MatchOption}
 use Rattle.std.specs.List.{AllPass, find}
 use Rattle.std.specs.Option.{option_map_or}
-use Rattle.eb_bytes.specs.Text.{Text, is_blank, lines}
+use Rattle.eb_bytes.specs.Class.{is_blank, is_letter_or_digit}
+use Rattle.eb_bytes.specs.Text.{Text, lines}
 
 -- the line isn't blank, and its first byte after blanks and tabs isn't `#`
 abbrev pub has_content : Text → Bool
@@ -15,9 +16,7 @@ opening_line text = find has_content (lines text)
 
 -- `[A-Za-z0-9+_.-]`
 abbrev pub is_eapi_byte : ℕ → Bool
-is_eapi_byte b =
-    (nat_le 65 b && nat_le b 90) || (nat_le 97 b && nat_le b 122) || (nat_le 48 b && nat_le b 57)
-    || (b == 43) || (b == 95) || (b == 46) || (b == 45)
+is_eapi_byte b = is_letter_or_digit b || b == 43 || b == 95 || b == 46 || b == 45
 
 -- `['"]?`
 abbrev pub IsQuote : Text → Type 0

@@ -2,6 +2,7 @@ ghost use Rattle.std.specs.Prelude.{◌≡◌, IfOk};
 ghost use Rattle.eapi_tables.specs.Eapi.{eapi_number, eapi_text, has_key as has, accumulates as adds};
 
 use crate::key::Key;
+use thiserror::Error;
 
 /// A version of the rules for ebuilds, by its number (Package Manager Specification).
 #[derive(Clone, Copy, Debug, PartialEq, Eq, PartialOrd, Ord)]
@@ -18,10 +19,24 @@ pub enum Eapi {
 }
 
 /// The text is no EAPI from 0 to 8.
-#[derive(Clone, Copy, Debug, PartialEq, Eq)]
+#[derive(Clone, Copy, Debug, PartialEq, Eq, Error)]
+#[error("not an EAPI from 0 to 8")]
 pub struct EapiUnknown;
 
 impl Eapi {
+    /// Every EAPI, the oldest first.
+    pub const ALL: [Eapi; 9] = [
+        Eapi::E0,
+        Eapi::E1,
+        Eapi::E2,
+        Eapi::E3,
+        Eapi::E4,
+        Eapi::E5,
+        Eapi::E6,
+        Eapi::E7,
+        Eapi::E8,
+    ];
+
     /// The EAPI of this text, one digit from 0 to 8. Takes no memory.
     ///
     /// # Errors
@@ -101,78 +116,5 @@ pub fn accumulates(eapi: Eapi, key: Key) -> bool
         Key::Bdepend => eapi.number() >= 7,
         Key::Idepend | Key::Properties | Key::Restrict => eapi.number() >= 8,
         _ => false,
-    }
-}
-
-#[cfg(test)]
-mod tests {
-    use super::*;
-
-    const EAPIS: [Eapi; 9] = [
-        Eapi::E0,
-        Eapi::E1,
-        Eapi::E2,
-        Eapi::E3,
-        Eapi::E4,
-        Eapi::E5,
-        Eapi::E6,
-        Eapi::E7,
-        Eapi::E8,
-    ];
-
-    // Of each key the first EAPI that has it, and the first that accumulates it; 9 where none does.
-    const FIRST: [(Key, usize, usize); 18] = [
-        (Key::Bdepend, 7, 7),
-        (Key::DefinedPhases, 0, 9),
-        (Key::Depend, 0, 0),
-        (Key::Description, 0, 9),
-        (Key::Eapi, 0, 9),
-        (Key::Homepage, 0, 9),
-        (Key::Idepend, 8, 8),
-        (Key::Inherit, 0, 9),
-        (Key::Iuse, 0, 0),
-        (Key::Keywords, 0, 9),
-        (Key::License, 0, 9),
-        (Key::Pdepend, 0, 0),
-        (Key::Properties, 0, 8),
-        (Key::Rdepend, 0, 0),
-        (Key::RequiredUse, 4, 4),
-        (Key::Restrict, 0, 8),
-        (Key::Slot, 0, 9),
-        (Key::SrcUri, 0, 9),
-    ];
-
-    #[test]
-    fn texts(rt: HostRuntime) {
-        let digits = ["0", "1", "2", "3", "4", "5", "6", "7", "8"];
-        for (digit, eapi) in digits.into_iter().zip(EAPIS) {
-            assert_eq!(rt; eapi.text(), digit.as_bytes(), "at {digit}");
-            assert_eq!(rt; Eapi::read(digit.as_bytes()), Ok(eapi), "at {digit}");
-        }
-        for other in ["", "9", "08", "10", "5-progress", "a", " 8", "/", ":"] {
-            assert_eq!(rt;
-                Eapi::read(other.as_bytes()),
-                Err(EapiUnknown),
-                "at {other:?}"
-            );
-        }
-    }
-
-    #[test]
-    fn keys_of_eapis(rt: HostRuntime) {
-        for (key, has_since, accumulates_since) in FIRST {
-            for (number, eapi) in EAPIS.into_iter().enumerate() {
-                assert_eq!(rt;
-                    has_key(eapi, key),
-                    number >= has_since,
-                    "{key:?} in {eapi:?}"
-                );
-                assert_eq!(rt;
-                    accumulates(eapi, key),
-                    number >= accumulates_since,
-                    "{key:?} in {eapi:?}"
-                );
-            }
-        }
     }
 }

@@ -86,39 +86,3 @@ impl Key {
         None
     }
 }
-
-#[cfg(test)]
-mod tests {
-    use super::*;
-
-    #[test]
-    fn names(rt: HostRuntime) {
-        let names = [
-            "BDEPEND",
-            "DEFINED_PHASES",
-            "DEPEND",
-            "DESCRIPTION",
-            "EAPI",
-            "HOMEPAGE",
-            "IDEPEND",
-            "INHERIT",
-            "IUSE",
-            "KEYWORDS",
-            "LICENSE",
-            "PDEPEND",
-            "PROPERTIES",
-            "RDEPEND",
-            "REQUIRED_USE",
-            "RESTRICT",
-            "SLOT",
-            "SRC_URI",
-        ];
-        for (name, key) in names.into_iter().zip(Key::ALL) {
-            assert_eq!(rt; key.name(), name.as_bytes(), "at {name}");
-            assert_eq!(rt; Key::read(name.as_bytes()), Some(key), "at {name}");
-        }
-        for other in ["", "DEPENDS", "DEPEN", "depend", "DEPEND ", "SRC-URI"] {
-            assert_eq!(rt; Key::read(other.as_bytes()), None, "at {other:?}");
-        }
-    }
-}

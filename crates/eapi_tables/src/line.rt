@@ -1,10 +1,12 @@
 ghost use Rattle.std.specs.Prelude.{◌≡◌, ◌⊎◌, ◌++◌, ◌↔◌, drop, not, length, IsTrue};
 ghost use Rattle.std.specs.List.{find, prefix_len};
 ghost use Rattle.std.specs.Option.{option_copied};
-ghost use Rattle.eb_bytes.specs.Text.{is_blank as blank_byte};
+ghost use Rattle.eb_bytes.specs.Class.{is_blank as blank_byte};
 ghost use Rattle.eapi_tables.specs.EapiLine.{has_content as content, is_eapi_byte as eapi_byte, opening_line as opening, IsEapiText, IsMatched, IsQuote, IsUnmatched, MatchesEapi};
 ghost use Rattle.eapi_tables.specs.TextEapi.{text_eapi};
 ghost use Rattle.eapi_tables.specs.EapiValue.{Closes, Finds, IsEnding, IsValueOf};
+
+use eb_bytes::{is_blank, is_letter_or_digit, is_newline};
 
 /// The EAPI that the text of an ebuild names, as its bytes: by its first line that is neither blank nor a comment, and
 /// `0` where that line names none, or an empty one, or where there is no such line. Takes no memory.
@@ -26,7 +28,8 @@ pub fn eapi_line(text: &[u8]) -> &[u8]
 fn opening_line(text: &[u8]) -> Option<&[u8]>
     ensures { option_copied result ≡ opening text.now }
 {
-    text.split(|b| *b == b'\n').find(|line| has_content(line))
+    text.split(|b| is_newline(*b))
+        .find(|line| has_content(line))
 }
 
 /// Whether the line is neither blank nor a comment.
@@ -60,10 +63,8 @@ fn line_eapi(line: &[u8]) -> &[u8]
 fn line_group(line: &[u8]) -> Option<&[u8]>
     ensures { Finds (option_copied result) (MatchesEapi line.now) }
 {
-    match stripped(after_blanks(line), b"EAPI=") {
-        Some(value) => value_group(value),
-        None => None,
-    }
+    let value = stripped(after_blanks(line), b"EAPI=")?;
+    value_group(value)
 }
 
 /// The value without its quotes, if all that follows them is blank or a comment.
@@ -123,19 +124,9 @@ fn eapi_len(text: &[u8]) -> usize
     text.iter().take_while(|b| is_eapi_byte(**b)).count()
 }
 
-/// Whether the byte is a blank or a tab.
-fn is_blank(byte: u8) -> bool
-    ensures { result ≡ blank_byte byte }
-{
-    byte == b' ' || byte == b'\t'
-}
-
 /// Whether the byte may stand in an EAPI: a letter, a digit, or one of `+_.-`.
 fn is_eapi_byte(byte: u8) -> bool
     ensures { result ≡ eapi_byte byte }
 {
-    matches!(byte, b'A'..=b'Z' | b'a'..=b'z' | b'0'..=b'9' | b'+' | b'_' | b'.' | b'-')
+    is_letter_or_digit(byte) || matches!(byte, b'+' | b'_' | b'.' | b'-')
 }
-
-#[cfg(test)]
-mod tests;

@@ -1,5 +1,8 @@
--- The first part of a path that does not hold is found from the left.
-use Rattle.std.proofs.Common.{◌≡◌, ℕ, ◌+◌, ◌-◌, Bool, true, false, ◌&&◌, cond, nat_eq, [], ◌∷◌, ◌++◌, length, take, drop, Option, Some, None, codes, refl, ap, sym, ◌∙◌, arith, append_assoc, length-append}
+-- The first bad part of a path is found from the left.
+use Rattle.std.proofs.Common.{◌≡◌, ℕ, ◌+◌, ◌-◌, Bool, true, false, nat_eq, [], ◌∷◌, ◌++◌, length, take, drop, Some, None, codes, refl, ap, sym, subst, ◌∙◌, arith, append_assoc, length-append}
+use denote.Ref.{Bor}
+use Rattle.std.specs.Prelude.{Result, Ok, Err, IfErr, IfOk}
+use Rattle.std.specs.Result.{result_err}
 use Rattle.std.specs.Cmp.Lexicographic.{pointwise}
 use Rattle.std.proofs.lemmas.Slice.Eq.{bytes_eq-Decides}
 use Rattle.std.proofs.Math.Seq.{drop-append_seam, take-append_seam}
@@ -12,13 +15,13 @@ use Rattle.ebuild_names.specs.declared.path.EbuildPath.{EbuildPath}
 use Rattle.ebuild_names.specs.declared.path.Names.{Names}
 use Rattle.ebuild_names.specs.declared.path.NameKind.{NameKind}
 use Rattle.ebuild_names.specs.declared.path.NameKind.TheVariants as kind
-use Rattle.ebuild_names.specs.BadKind.{bad_file, bad_kind, bad_package, is_file_text, version_part}
+use Rattle.ebuild_names.specs.BadKind.{bad_kind, is_file_text, version_part}
 use Rattle.ebuild_names.specs.Form.{is_category_name, IsPackageName}
 use Rattle.ebuild_names.specs.Path.{GivesNames, IsBad, IsFileOf}
-use Rattle.ebuild_names.specs.Walk.{IsVersionAt, is_package_text}
+use Rattle.ebuild_names.specs.Walk.{IsVersionAt, is_package_text, texts_of}
 use Rattle.ebuild_names.proofs.Cuts.{file_parts}
 use Rattle.ebuild_names.proofs.Ends.{package_name, package_text}
-use Rattle.ebuild_names.proofs.Named.{file_of_version}
+use Rattle.ebuild_names.proofs.Named.{file_of_version, gives_names}
 
 -- ---- files
 
@@ -27,10 +30,10 @@ version_part-of pn v =
     let file : Text = pn ++ 45 ∷ (v ++ codes ".ebuild") in
     let apart : (pn ++ 45 ∷ []) ++ (v ++ codes ".ebuild") ≡ file = append_assoc pn (45 ∷ []) (v ++ codes ".ebuild") in
     let front : length (pn ++ 45 ∷ []) ≡ length pn + 1 = length-append pn (45 ∷ []) in
-    let behind : drop (length pn + 1) file ≡ v ++ codes ".ebuild" =
+    let after : drop (length pn + 1) file ≡ v ++ codes ".ebuild" =
     ap (λ (n : ℕ). drop n file) (sym front) ∙ ap (λ (t : Text). drop (length (pn ++ 45 ∷ [])) t) (sym apart) ∙ drop-append_seam (pn ++ 45 ∷ []) (v ++ codes ".ebuild") in
     let count : length file - (length pn + 8) ≡ length v = omega (arith, length-append pn (45 ∷ (v ++ codes ".ebuild")), length-append v (codes ".ebuild")) in
-    ap (λ (n : ℕ). take n (drop (length pn + 1) file)) count ∙ ap (λ (t : Text). take (length v) t) behind ∙ take-append_seam v (codes ".ebuild")
+    ap (λ (n : ℕ). take n (drop (length pn + 1) file)) count ∙ ap (λ (t : Text). take (length v) t) after ∙ take-append_seam v (codes ".ebuild")
 
 is_file_text-whole : (pn v : Text) → is_version_text v ≡ true → is_file_text pn (pn ++ 45 ∷ (v ++ codes ".ebuild")) ≡ true
 is_file_text-whole pn v is =
@@ -87,3 +90,22 @@ bad_kind-some at kind.File bad =
     let name : is_package_text at.«package» ≡ true = package_text at.«package» bad.1 in
     let file : is_file_text at.«package» at.file ≡ false = no_file at.«package» at.file bad.2 in
     rw (category, name, file) refl
+
+-- ---- what the reader answers
+
+-- the parts of a path were read: the version of its file, or its first bad part
+pub record IsRead (at : EbuildPath) (read : Result (Bor Text) NameKind) : Type 0 where
+  pub version : IfOk read (λ v. IsVersionAt at.«package» at.file v.now)
+  pub category : IfOk read (λ v. is_category_name at.category ≡ true)
+  pub name : IfOk read (λ v. IsPackageName at.«package»)
+  pub bad : IfErr read (λ kind. IsBad at kind)
+
+pub bad_kind-read : (at : EbuildPath) (read : Result (Bor Text) NameKind) → IsRead at read → bad_kind at ≡ result_err read
+bad_kind-read at (Ok v) is =
+    let names : Names = texts_of at.category at.«package» v.now in
+    bad_kind-none at names (gives_names at v.now names is.category is.name is.version refl)
+bad_kind-read at (Err kind) is = bad_kind-some at kind is.bad
+
+pub read-bad : (at : EbuildPath) (read : Result (Bor Text) NameKind) (kind : NameKind) → IsRead at read → result_err read ≡ Some kind → IsBad at kind
+read-bad at (Ok v) kind is e = absurd (cc)
+read-bad at (Err k) kind is e = let same : k ≡ kind = cc in subst (IsBad at) same is.bad

@@ -40,33 +40,33 @@ ended suffix t rest ok e =
     ∙ ap (λ (s : Text). take (length t - length suffix) t ++ s) ((same (drop (length t - length suffix) t) suffix).0 ok)
     ∙ ap (λ (s : Text). s ++ suffix) (sym e)
 
--- the file of a package, cut behind the package's name and its hyphen
+-- the file of a package, cut after the package's name and its hyphen
 pub file_parts : (pn version : Text) → (pn ++ 45 ∷ version) ++ codes ".ebuild" ≡ pn ++ (45 ∷ (version ++ codes ".ebuild"))
 file_parts pn version = append_assoc pn (45 ∷ version) (codes ".ebuild")
 
 -- ---- the version that the name of a file has
 
-what_follows : (pn file behind : Text) (is : IsFileOf pn file) → file ≡ pn ++ behind → behind ≡ 45 ∷ (spelling is.version ++ codes ".ebuild")
-what_follows pn file behind is e = append_cancel_left pn behind (45 ∷ (spelling is.version ++ codes ".ebuild")) (sym e ∙ is.named ∙ file_parts pn (spelling is.version))
+what_follows : (pn file after : Text) (is : IsFileOf pn file) → file ≡ pn ++ after → after ≡ 45 ∷ (spelling is.version ++ codes ".ebuild")
+what_follows pn file after is e = append_cancel_left pn after (45 ∷ (spelling is.version ++ codes ".ebuild")) (sym e ∙ is.named ∙ file_parts pn (spelling is.version))
 
-behind_hyphen_is : (pn file behind more : Text) (is : IsFileOf pn file) → file ≡ pn ++ behind → behind ≡ 45 ∷ more → more ≡ spelling is.version ++ codes ".ebuild"
-behind_hyphen_is pn file behind more is e f =
-    let both : 45 ∷ more ≡ 45 ∷ (spelling is.version ++ codes ".ebuild") = sym f ∙ what_follows pn file behind is e in
+after_hyphen_is : (pn file after more : Text) (is : IsFileOf pn file) → file ≡ pn ++ after → after ≡ 45 ∷ more → more ≡ spelling is.version ++ codes ".ebuild"
+after_hyphen_is pn file after more is e f =
+    let both : 45 ∷ more ≡ 45 ∷ (spelling is.version ++ codes ".ebuild") = sym f ∙ what_follows pn file after is e in
     cc
 
 pub no_package : (pn file : Text) → ((rest : Text) → file ≢ pn ++ rest) → ¬ IsFileOf pn file
 no_package pn file other is = other (45 ∷ (spelling is.version ++ codes ".ebuild")) (is.named ∙ file_parts pn (spelling is.version))
 
-pub no_hyphen : (pn file behind : Text) → file ≡ pn ++ behind → ((rest : Text) → behind ≢ 45 ∷ rest) → ¬ IsFileOf pn file
-no_hyphen pn file behind e other is = other (spelling is.version ++ codes ".ebuild") (what_follows pn file behind is e)
+pub no_hyphen : (pn file after : Text) → file ≡ pn ++ after → ((rest : Text) → after ≢ 45 ∷ rest) → ¬ IsFileOf pn file
+no_hyphen pn file after e other is = other (spelling is.version ++ codes ".ebuild") (what_follows pn file after is e)
 
-pub no_end : (pn file behind more : Text) → file ≡ pn ++ behind → behind ≡ 45 ∷ more → ((rest : Text) → more ≢ rest ++ codes ".ebuild") → ¬ IsFileOf pn file
-no_end pn file behind more e f other is = other (spelling is.version) (behind_hyphen_is pn file behind more is e f)
+pub no_end : (pn file after more : Text) → file ≡ pn ++ after → after ≡ 45 ∷ more → ((rest : Text) → more ≢ rest ++ codes ".ebuild") → ¬ IsFileOf pn file
+no_end pn file after more e f other is = other (spelling is.version) (after_hyphen_is pn file after more is e f)
 
-pub no_version : (pn file behind more version : Text) → file ≡ pn ++ behind → behind ≡ 45 ∷ more → more ≡ version ++ codes ".ebuild" → ¬ IsVersionText version → ¬ IsFileOf pn file
-no_version pn file behind more version e f g other is =
-    let spelled : version ≡ spelling is.version = append_cancel_right version (spelling is.version) (codes ".ebuild") (sym g ∙ behind_hyphen_is pn file behind more is e f) in
+pub no_version : (pn file after more version : Text) → file ≡ pn ++ after → after ≡ 45 ∷ more → more ≡ version ++ codes ".ebuild" → ¬ IsVersionText version → ¬ IsFileOf pn file
+no_version pn file after more version e f g other is =
+    let spelled : version ≡ spelling is.version = append_cancel_right version (spelling is.version) (codes ".ebuild") (sym g ∙ after_hyphen_is pn file after more is e f) in
     other (record { version = is.version; well_formed = is.well_formed; spelled = spelled })
 
-pub version_there : (pn file behind more version : Text) → file ≡ pn ++ behind → behind ≡ 45 ∷ more → more ≡ version ++ codes ".ebuild" → IsVersionText version → IsVersionAt pn file version
-version_there pn file behind more version e f g is = record { is_version = is; whole = e ∙ ap (λ (s : Text). pn ++ s) f ∙ ap (λ (s : Text). pn ++ 45 ∷ s) g }
+pub version_there : (pn file after more version : Text) → file ≡ pn ++ after → after ≡ 45 ∷ more → more ≡ version ++ codes ".ebuild" → IsVersionText version → IsVersionAt pn file version
+version_there pn file after more version e f g is = record { is_version = is; whole = e ∙ ap (λ (s : Text). pn ++ s) f ∙ ap (λ (s : Text). pn ++ 45 ∷ s) g }

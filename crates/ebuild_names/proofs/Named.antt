@@ -1,4 +1,4 @@
--- What a path gives, and what it is wrong in.
+-- What a path gives, and what is bad in it.
 use Rattle.std.proofs.Common.{◌≡◌, true, Some, None, ◌∷◌, ◌++◌, refl, ap, sym, subst, ◌∙◌, append_assoc}
 use Rattle.std.proofs.Common.{◌⊎◌, inl, inr}
 use Rattle.std.specs.Prelude.{Option, codes}
@@ -66,8 +66,8 @@ pub full_name_has_version : FullNameHasVersion
 full_name_has_version at names gives = ap (λ (n : Names). n.pf) gives.texts ∙ ap (λ (n : Names). n.pn ++ 45 ∷ n.pvr) (sym gives.texts)
 
 -- the same of a version, by its revision
-pub revision_behind : (category pn : Text) (v : Version) → IsWellFormed v → let n = names_of category pn v in ((n.pf ≡ n.p) × (n.pr ≡ codes "r0")) ⊎ (n.pf ≡ n.p ++ 45 ∷ n.pr)
-revision_behind category pn v well = on v.revision refl
+pub revision_after : (category pn : Text) (v : Version) → IsWellFormed v → let n = names_of category pn v in ((n.pf ≡ n.p) × (n.pr ≡ codes "r0")) ⊎ (n.pf ≡ n.p ++ 45 ∷ n.pr)
+revision_after category pn v well = on v.revision refl
   where
     cut : spelling v ≡ spelling (without_revision v) ++ spelled_revision v.revision
     cut = (revision_cut v well).whole
@@ -85,7 +85,7 @@ revision_behind category pn v well = on v.revision refl
 pub full_name_has_revision : FullNameHasRevision
 full_name_has_revision at names gives =
     let P : Names → Type 0 = λ n. ((n.pf ≡ n.p) × (n.pr ≡ codes "r0")) ⊎ (n.pf ≡ n.p ++ 45 ∷ n.pr) in
-    subst P (sym gives.texts) (revision_behind at.category at.«package» gives.file.version gives.file.well_formed)
+    subst P (sym gives.texts) (revision_after at.category at.«package» gives.file.version gives.file.well_formed)
 
 pub names_are_one : NamesAreOne
 names_are_one at names others gives other =

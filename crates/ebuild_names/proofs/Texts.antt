@@ -4,14 +4,15 @@ use Rattle.std.specs.List.{list_all}
 use Rattle.std.proofs.lemmas.List.{append-nil}
 use Rattle.std.proofs.lemmas.List.Folds.{list_all-append}
 use Rattle.eb_bytes.specs.Text.{Text, has_bytes}
-use Rattle.version_funcs.specs.Byte.{is_digit, is_no, is_small}
+use Rattle.eb_bytes.specs.Class.{is_digit, is_lower}
+use Rattle.version_funcs.specs.Byte.{is_no}
 use Rattle.version_funcs.specs.Version.{Version, IsWellFormed, is_none_or, is_number, marked, spelled_letter, spelled_suffix, spelled_revision, spelling}
 use Rattle.version_funcs.proofs.Marks.{Cut, stops, take_while-cut, after_while-cut, first_true, rest_true, both_true}
-use Rattle.version_funcs.proofs.Spelled.{components_are, digit_is_no, list_all-larger, small_is_no, suffixes_are}
+use Rattle.version_funcs.proofs.Spelled.{components_are, digit_is_no, list_all-larger, lower_is_no, suffixes_are}
 use Rattle.version_funcs.proofs.Unambiguous.{unambiguous}
 use Rattle.ebuild_names.specs.Form.{begins}
 use Rattle.ebuild_names.specs.Path.{names_of, revision_name, with_version, without_revision}
-use Rattle.ebuild_names.specs.Walk.{before_hyphen, behind_hyphen, from_hyphen, texts_of}
+use Rattle.ebuild_names.specs.Walk.{before_hyphen, after_hyphen, from_hyphen, texts_of}
 
 -- ---- a version without its revision has no hyphen
 
@@ -25,9 +26,9 @@ all_marked p mark (part ∷ parts) here all =
     (all_joined p part (marked mark parts) (first_true (list_all p part) (list_all (list_all p) parts) all)
     (all_marked p mark parts here (rest_true (list_all p part) (list_all (list_all p) parts) all)))
 
-letter_has_none : (letter : Option ℕ) → is_none_or is_small letter ≡ true → list_all (is_no 45) (spelled_letter letter) ≡ true
+letter_has_none : (letter : Option ℕ) → is_none_or is_lower letter ≡ true → list_all (is_no 45) (spelled_letter letter) ≡ true
 letter_has_none None small = refl
-letter_has_none (Some b) small = both_true (is_no 45 b) true (small_is_no 45 refl b small) refl
+letter_has_none (Some b) small = both_true (is_no 45 b) true (lower_is_no 45 refl b small) refl
 
 digits_have_none : (t : Text) → list_all is_digit t ≡ true → list_all (is_no 45) t ≡ true
 digits_have_none = list_all-larger is_digit (is_no 45) (digit_is_no 45 refl)
@@ -36,7 +37,7 @@ plain_has_none : (v : Version) → IsWellFormed v → list_all (is_no 45) (spell
 plain_has_none v well =
     let suffixes : list_all (is_no 45) (marked 95 (map spelled_suffix v.suffixes) ++ []) ≡ true =
     all_joined (is_no 45) (marked 95 (map spelled_suffix v.suffixes)) []
-    (all_marked (is_no 45) 95 (map spelled_suffix v.suffixes) refl (suffixes_are (is_no 45) (small_is_no 45 refl) (digit_is_no 45 refl) v.suffixes well.suffixes_are)) refl in
+    (all_marked (is_no 45) 95 (map spelled_suffix v.suffixes) refl (suffixes_are (is_no 45) (lower_is_no 45 refl) (digit_is_no 45 refl) v.suffixes well.suffixes_are)) refl in
     let later : list_all (is_no 45) (marked 46 v.later) ≡ true =
     all_marked (is_no 45) 46 v.later refl (components_are (is_no 45) (digit_is_no 45 refl) v.later well.later_are) in
     all_joined (is_no 45) v.first _ (digits_have_none v.first (rest_true (has_bytes v.first) (list_all is_digit v.first) well.first_is))
@@ -59,16 +60,16 @@ revision_cut v well = record {
   stop = stops-revision v.revision;
 }
 
-behind_hyphen-spelled : (revision : Option Text) → behind_hyphen (spelled_revision revision) ≡ revision_name revision
-behind_hyphen-spelled None = refl
-behind_hyphen-spelled (Some digits) = refl
+after_hyphen-spelled : (revision : Option Text) → after_hyphen (spelled_revision revision) ≡ revision_name revision
+after_hyphen-spelled None = refl
+after_hyphen-spelled (Some digits) = refl
 
 -- the texts that the code makes are those of the version
 pub texts_of-spelling : (category pn : Text) (v : Version) → IsWellFormed v → texts_of category pn (spelling v) ≡ names_of category pn v
 texts_of-spelling category pn v well =
     let plain : before_hyphen (spelling v) ≡ spelling (without_revision v) = take_while-cut (is_no 45) (spelling v) (spelling (without_revision v)) (spelled_revision v.revision) (revision_cut v well) in
-    let revision : behind_hyphen (from_hyphen (spelling v)) ≡ revision_name v.revision =
-    ap behind_hyphen (after_while-cut (is_no 45) (spelling v) (spelling (without_revision v)) (spelled_revision v.revision) (revision_cut v well)) ∙ behind_hyphen-spelled v.revision in
+    let revision : after_hyphen (from_hyphen (spelling v)) ≡ revision_name v.revision =
+    ap after_hyphen (after_while-cut (is_no 45) (spelling v) (spelling (without_revision v)) (spelled_revision v.revision) (revision_cut v well)) ∙ after_hyphen-spelled v.revision in
     λ i. record {
       category = category;
       pn = pn;
@@ -79,29 +80,29 @@ texts_of-spelling category pn v well =
       pf = with_version pn (spelling v);
     }
 
--- ---- no version stands behind a hyphen of a version
+-- ---- no version stands after a hyphen of a version
 
--- whether a digit stands behind some hyphen
-abbrev digit_behind_hyphen : Text → Bool
-digit_behind_hyphen [] = false
-digit_behind_hyphen (b ∷ t) = b == 45 && begins is_digit t || digit_behind_hyphen t
+-- whether a digit stands after some hyphen
+abbrev digit_after_hyphen : Text → Bool
+digit_after_hyphen [] = false
+digit_after_hyphen (b ∷ t) = b == 45 && begins is_digit t || digit_after_hyphen t
 
-after_run : (s t : Text) → list_all (is_no 45) s ≡ true → digit_behind_hyphen (s ++ t) ≡ digit_behind_hyphen t
+after_run : (s t : Text) → list_all (is_no 45) s ≡ true → digit_after_hyphen (s ++ t) ≡ digit_after_hyphen t
 after_run [] t none = refl
 after_run (b ∷ s) t none = on (b == 45) refl none (after_run s t)
   where
-    on : (v : Bool) → (b == 45) ≡ v → list_all (is_no 45) (b ∷ s) ≡ true → (list_all (is_no 45) s ≡ true → digit_behind_hyphen (s ++ t) ≡ digit_behind_hyphen t) → digit_behind_hyphen (b ∷ (s ++ t)) ≡ digit_behind_hyphen t
+    on : (v : Bool) → (b == 45) ≡ v → list_all (is_no 45) (b ∷ s) ≡ true → (list_all (is_no 45) s ≡ true → digit_after_hyphen (s ++ t) ≡ digit_after_hyphen t) → digit_after_hyphen (b ∷ (s ++ t)) ≡ digit_after_hyphen t
     on true e none rest = let never : false ≡ true = rw e at (first_true (is_no 45 b) (list_all (is_no 45) s) none) in absurd (cc)
-    on false e none rest = ap (λ (v : Bool). v && begins is_digit (s ++ t) || digit_behind_hyphen (s ++ t)) e ∙ rest (rest_true (is_no 45 b) (list_all (is_no 45) s) none)
+    on false e none rest = ap (λ (v : Bool). v && begins is_digit (s ++ t) || digit_after_hyphen (s ++ t)) e ∙ rest (rest_true (is_no 45 b) (list_all (is_no 45) s) none)
 
-revision_has_none : (revision : Option Text) → is_none_or is_number revision ≡ true → digit_behind_hyphen (spelled_revision revision) ≡ false
+revision_has_none : (revision : Option Text) → is_none_or is_number revision ≡ true → digit_after_hyphen (spelled_revision revision) ≡ false
 revision_has_none None well = refl
 revision_has_none (Some digits) well =
-    ap digit_behind_hyphen (sym (append-nil digits)) ∙ after_run digits [] (digits_have_none digits (rest_true (has_bytes digits) (list_all is_digit digits) well))
+    ap digit_after_hyphen (sym (append-nil digits)) ∙ after_run digits [] (digits_have_none digits (rest_true (has_bytes digits) (list_all is_digit digits) well))
 
-version_has_none : (v : Version) → IsWellFormed v → digit_behind_hyphen (spelling v) ≡ false
+version_has_none : (v : Version) → IsWellFormed v → digit_after_hyphen (spelling v) ≡ false
 version_has_none v well =
-    ap digit_behind_hyphen (revision_cut v well).whole ∙ after_run (spelling (without_revision v)) (spelled_revision v.revision) (plain_has_none v well) ∙ revision_has_none v.revision well.revision_is
+    ap digit_after_hyphen (revision_cut v well).whole ∙ after_run (spelling (without_revision v)) (spelled_revision v.revision) (plain_has_none v well) ∙ revision_has_none v.revision well.revision_is
 
 begins_with_digit : (first rest : Text) → is_number first ≡ true → begins is_digit (first ++ rest) ≡ true
 begins_with_digit [] rest well = absurd (cc)
@@ -111,16 +112,16 @@ or_true : (v : Bool) → (v || true) ≡ true
 or_true true = refl
 or_true false = refl
 
-there_is_one : (front t : Text) → begins is_digit t ≡ true → digit_behind_hyphen (front ++ 45 ∷ t) ≡ true
-there_is_one [] t digit = ap (λ (v : Bool). v || digit_behind_hyphen t) digit
+there_is_one : (front t : Text) → begins is_digit t ≡ true → digit_after_hyphen (front ++ 45 ∷ t) ≡ true
+there_is_one [] t digit = ap (λ (v : Bool). v || digit_after_hyphen t) digit
 there_is_one (b ∷ front) t digit =
     ap (λ (v : Bool). b == 45 && begins is_digit (front ++ 45 ∷ t) || v) (there_is_one front t digit) ∙ or_true (b == 45 && begins is_digit (front ++ 45 ∷ t))
 
 no_version_within : (front : Text) (v w : Version) → IsWellFormed v → IsWellFormed w → spelling v ≡ front ++ 45 ∷ spelling w → ⊥
 no_version_within front v w well_v well_w e =
-    let one : digit_behind_hyphen (front ++ 45 ∷ spelling w) ≡ true = there_is_one front (spelling w) (begins_with_digit w.first _ well_w.first_is) in
-    let none : digit_behind_hyphen (spelling v) ≡ false = version_has_none v well_v in
-    let never : true ≡ false = sym one ∙ ap digit_behind_hyphen (sym e) ∙ none in
+    let one : digit_after_hyphen (front ++ 45 ∷ spelling w) ≡ true = there_is_one front (spelling w) (begins_with_digit w.first _ well_w.first_is) in
+    let none : digit_after_hyphen (spelling v) ≡ false = version_has_none v well_v in
+    let never : true ≡ false = sym one ∙ ap digit_after_hyphen (sym e) ∙ none in
     absurd (cc)
 
 -- PF says where PN ends

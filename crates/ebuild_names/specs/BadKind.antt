@@ -1,4 +1,4 @@
--- The first part of a path that does not hold, found from the left. `Path` says by the forms of names which it is.
+-- The first bad part of a path, found from the left. `Path` says by the forms of names which it is.
 use Rattle.std.specs.Prelude.{Bool, ◌&&◌, ◌-◌, ◌+◌, ◌∷◌, ◌++◌, length, take, drop, nat_eq, Option, Some, None, codes, if◌then◌else◌}
 use Rattle.std.specs.Cmp.Lexicographic.{pointwise}
 use Rattle.eb_bytes.specs.Text.{Text}
@@ -23,6 +23,6 @@ bad_file at = if is_file_text at.«package» at.file then None else Some kind.Fi
 abbrev pub bad_package : EbuildPath → Option NameKind
 bad_package at = if is_package_text at.«package» then bad_file at else Some kind.Package
 
--- the first of its three parts that does not hold, if one does not
+-- the first of its three parts that is bad, if one is
 abbrev pub bad_kind : EbuildPath → Option NameKind
 bad_kind at = if is_category_name at.category then bad_package at else Some kind.Category

@@ -2,18 +2,14 @@
 use Rattle.std.specs.Prelude.{◌≡◌, ℕ, Bool, true, false, ◌==◌, ◌&&◌, ◌||◌, not, [], ◌∷◌, ◌++◌}
 use Rattle.std.specs.List.{list_all}
 use Rattle.eb_bytes.specs.Text.{Text, has_bytes}
-use Rattle.version_funcs.specs.Byte.{is_digit, is_letter}
+use Rattle.eb_bytes.specs.Class.{is_letter_or_digit, is_name_byte}
 use Rattle.version_funcs.specs.Version.{IsVersionText}
 
 -- ---- bytes
 
--- a letter of ASCII, or a digit
-abbrev pub is_letter_or_digit : ℕ → Bool
-is_letter_or_digit b = is_letter b || is_digit b
-
--- a letter, a digit, a plus, an underscore or a hyphen
+-- a letter, a digit, an underscore, a plus or a hyphen
 abbrev pub is_package_byte : ℕ → Bool
-is_package_byte b = is_letter_or_digit b || b == 43 || b == 95 || b == 45
+is_package_byte b = is_name_byte b || b == 43 || b == 45
 
 -- these, and a full stop
 abbrev pub is_category_byte : ℕ → Bool
@@ -45,7 +41,7 @@ is_category_name t = has_bytes t && list_all is_category_byte t && not (begins i
 abbrev pub is_flag_name : Text → Bool
 is_flag_name t = list_all is_flag_byte t && begins is_letter_or_digit t
 
--- a text that can be cut before a hyphen with a version behind it
+-- a text that can be cut before a hyphen with a version after it
 pub record EndsInVersion (t : Text) : Type 0 where
   pub front : Text
   pub version : Text

@@ -24,11 +24,11 @@ FullNameHasRevision =
 abbrev pub NamesAreOne : Type 0
 NamesAreOne = (at : EbuildPath) (names others : Names) → GivesNames at names → GivesNames at others → names ≡ others
 
--- a path that gives texts has no wrong part
+-- a path that gives texts has no bad part
 abbrev pub NamedIsNotBad : Type 0
 NamedIsNotBad = (at : EbuildPath) (names : Names) (kind : NameKind) → GivesNames at names → ¬ IsBad at kind
 
--- a path has one wrong part at most
+-- a path has one bad part at most
 abbrev pub BadIsOne : Type 0
 BadIsOne = (at : EbuildPath) (kind other : NameKind) → IsBad at kind → IsBad at other → kind ≡ other
 

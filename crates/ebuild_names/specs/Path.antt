@@ -57,7 +57,7 @@ pub record GivesNames (at : EbuildPath) (names : Names) : Type 0 where
   pub file : IsFileOf at.«package» at.file
   pub texts : names ≡ names_of at.category at.«package» file.version
 
--- what a path is wrong in: the first of its three parts that does not hold
+-- what is bad in a path: the first of its three parts that is no such name
 abbrev pub IsBad : EbuildPath → NameKind → Type 0
 IsBad at kind.Category = is_category_name at.category ≡ false
 IsBad at kind.Package = (is_category_name at.category ≡ true) × ¬ IsPackageName at.«package»

@@ -12,7 +12,7 @@ abbrev pub is_hyphen_and_version : Text → Bool
 is_hyphen_and_version [] = false
 is_hyphen_and_version (b ∷ t) = b == 45 && is_version_text t
 
--- whether a version stands behind some hyphen of the text
+-- whether a version stands after some hyphen of the text
 abbrev pub ends_in_version : Text → Bool
 ends_in_version [] = false
 ends_in_version (b ∷ t) = is_hyphen_and_version (b ∷ t) || ends_in_version t
@@ -20,7 +20,7 @@ ends_in_version (b ∷ t) = is_hyphen_and_version (b ∷ t) || ends_in_version t
 abbrev pub is_package_text : Text → Bool
 is_package_text t = has_bytes t && list_all is_package_byte t && not (begins is_sign t) && not (ends_in_version t)
 
--- a version that the name of the file has behind the package's
+-- a version that the name of the file has after the package's
 pub record IsVersionAt (pn file version : Text) : Type 0 where
   pub is_version : IsVersionText version
   pub whole : file ≡ pn ++ 45 ∷ (version ++ codes ".ebuild")
@@ -32,10 +32,10 @@ before_hyphen t = take_while (is_no 45) t
 abbrev pub from_hyphen : Text → Text
 from_hyphen t = after_while (is_no 45) t
 
--- the revision that stands behind a hyphen, `r0` where there is none
-abbrev pub behind_hyphen : Text → Text
-behind_hyphen [] = codes "r0"
-behind_hyphen (b ∷ t) = t
+-- the revision that stands after a hyphen, `r0` where there is none
+abbrev pub after_hyphen : Text → Text
+after_hyphen [] = codes "r0"
+after_hyphen (b ∷ t) = t
 
 -- the texts of a path with this version
 abbrev pub texts_of : (category pn version : Text) → Names
@@ -43,7 +43,7 @@ texts_of category pn version = record {
   category = category;
   pn = pn;
   pv = before_hyphen version;
-  pr = behind_hyphen (from_hyphen version);
+  pr = after_hyphen (from_hyphen version);
   p = pn ++ 45 ∷ before_hyphen version;
   pvr = version;
   pf = pn ++ 45 ∷ version;

@@ -2,16 +2,18 @@ ghost use Rattle.std.specs.Prelude.{◌≡◌, ◌↔◌, ◌&&◌, IsTrue};
 ghost use Rattle.std.specs.List.{list_all};
 ghost use Rattle.eb_bytes.specs.Text.{has_bytes};
 ghost use Rattle.version_funcs.specs.Walk.{is_version_text};
-ghost use Rattle.ebuild_names.specs.Form.{begins, IsPackageName, is_category_byte as is_category_byte_value, is_category_name, is_flag_byte as is_flag_byte_value, is_flag_name, is_package_byte as is_package_byte_value, is_dot, is_letter_or_digit, is_sign};
+ghost use Rattle.eb_bytes.specs.Class.{is_letter_or_digit};
+ghost use Rattle.ebuild_names.specs.Form.{begins, IsPackageName, is_category_byte as is_category_byte_value, is_category_name, is_flag_byte as is_flag_byte_value, is_flag_name, is_package_byte as is_package_byte_value, is_dot, is_sign};
 ghost use Rattle.ebuild_names.specs.Walk.{ends_in_version as ends_in_version_text, is_hyphen_and_version as is_hyphen_and_version_text, is_package_text};
 
+use eb_bytes::{is_letter_or_digit, is_name_byte};
 use version_funcs::read_version;
 
 // Whether a package's name may have this byte.
 fn is_package_byte(byte: u8) -> bool
     ensures { result ≡ is_package_byte_value byte }
 {
-    matches!(byte, b'A'..=b'Z' | b'a'..=b'z' | b'0'..=b'9' | b'+' | b'_' | b'-')
+    is_name_byte(byte) || matches!(byte, b'+' | b'-')
 }
 
 fn is_category_byte(byte: u8) -> bool
@@ -62,28 +64,19 @@ fn has_package_bytes(text: &[u8]) -> bool
 fn begins_with_sign(text: &[u8]) -> bool
     ensures { result ≡ begins is_sign text.now }
 {
-    match text {
-        [] => false,
-        [first, ..] => matches!(*first, b'-' | b'+'),
-    }
+    matches!(text, [b'-' | b'+', ..])
 }
 
 fn begins_with_dot(text: &[u8]) -> bool
     ensures { result ≡ begins is_dot text.now }
 {
-    match text {
-        [] => false,
-        [first, ..] => *first == b'.',
-    }
+    matches!(text, [b'.', ..])
 }
 
 fn begins_with_letter_or_digit(text: &[u8]) -> bool
     ensures { result ≡ begins is_letter_or_digit text.now }
 {
-    match text {
-        [] => false,
-        [first, ..] => first.is_ascii_alphanumeric(),
-    }
+    matches!(text, [first, ..] if is_letter_or_digit(*first))
 }
 
 /// Whether the text has the form of a category (Package Manager Specification, "Names and Versions"): one ASCII letter,
@@ -104,7 +97,7 @@ pub fn is_flag(text: &[u8]) -> bool
 }
 
 /// Whether the text has the form of a package's name (Package Manager Specification, "Names and Versions"): one ASCII
-/// letter, digit, `+`, `_` or `-` or more, the first of them neither `-` nor `+`, and no hyphen with a version behind it
+/// letter, digit, `+`, `_` or `-` or more, the first of them neither `-` nor `+`, and no hyphen with a version after it
 /// at the end. Takes no memory.
 pub fn is_package(text: &[u8]) -> bool
     ensures { IsTrue result ↔ IsPackageName text.now }
@@ -128,7 +121,7 @@ fn is_hyphen_and_version(text: &[u8]) -> bool
     }
 }
 
-// Whether a version stands behind some hyphen, up to the end.
+// Whether a version stands after some hyphen, up to the end.
 fn ends_in_version(text: &[u8]) -> bool
     ensures { result ≡ ends_in_version_text text.now }
 {

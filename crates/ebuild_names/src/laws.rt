@@ -7,21 +7,21 @@ ghost use Rattle.ebuild_names.specs.Path.{GivesNames, IsBad, path_order};
 
 use crate::path::{EbuildPath, NameKind, Names};
 
-/// A path either gives names or is wrong in one part; and it gives the names in one way.
+/// A path either gives names or is bad in one part; and it gives the names in one way.
 pub fn path_has_one_answer()
     ensures names { NamesAreOne }
     ensures not_both { NamedIsNotBad }
     ensures bad { BadIsOne }
 {}
 
-/// What `bad_kind` finds from the left is the first part of a path that does not hold, and nothing where the path gives
+/// What `bad_kind` finds from the left is the first bad part of a path, and nothing where the path gives
 /// names.
 pub fn bad_kind_is_the_first_bad_part()
     ensures bad { (at : EbuildPath) (kind : NameKind) → IsBad at kind → bad_kind at ≡ Some kind }
     ensures none { (at : EbuildPath) (names : Names) → GivesNames at names → bad_kind at ≡ None }
 {}
 
-/// The file's name is `PF` and `.ebuild`; `PF` is `PN`, a hyphen and `PVR`; and it is `P`, with a hyphen and `PR` behind
+/// The file's name is `PF` and `.ebuild`; `PF` is `PN`, a hyphen and `PVR`; and it is `P`, with a hyphen and `PR` after
 /// it where a revision is written.
 pub fn names_make_up_the_full_name()
     ensures file { FileIsFullName }

@@ -2,16 +2,19 @@ ghost use Rattle.std.specs.Prelude.{◌≡◌, ◌≢◌, ◌↔◌, ◌++◌, �
 ghost use Rattle.std.specs.List.{position};
 ghost use Rattle.eb_bytes.specs.Text.{Text};
 ghost use Rattle.version_funcs.specs.Version.{IsVersionText};
+ghost use Rattle.ebuild_names.specs.BadKind.{bad_kind as first_bad_kind};
 ghost use Rattle.ebuild_names.specs.Form.{is_category_name, IsPackageName};
 ghost use Rattle.ebuild_names.specs.Path.{GivesNames, IsBad, IsFileOf, kind_name, with_version as with_version_text};
-ghost use Rattle.ebuild_names.specs.Walk.{IsVersionAt, before_hyphen, behind_hyphen, from_hyphen, texts_of as texts_of_version};
+ghost use Rattle.ebuild_names.specs.Walk.{IsVersionAt, before_hyphen, after_hyphen, from_hyphen, texts_of as texts_of_version};
 
 use crate::form::{is_category, is_package};
 use eb_bytes::{Bytes, Memory};
 use std::alloc::Global;
+use std::fmt;
+use thiserror::Error;
 use version_funcs::read_version;
 
-/// Where an ebuild is in its repository. Paths order by category, then by package, then by file, each byte by byte.
+/// The path of an ebuild in its repository. Paths order by category, then by package, then by file, each byte by byte.
 #[derive(Debug, Drop, PartialEq, Eq, PartialOrd, Ord)]
 pub struct EbuildPath {
     /// The name of the folder of its category.
@@ -62,12 +65,24 @@ impl NameKind {
     }
 }
 
+impl fmt::Display for NameKind {
+    fn fmt<W: fmt::Write>(&self, f: &mut fmt::Formatter<W>) -> fmt::Result {
+        f.write_str(match self {
+            NameKind::Category => "category",
+            NameKind::Package => "package",
+            NameKind::File => "file",
+        })
+    }
+}
+
 /// Why a path gives no names.
-#[derive(Clone, Copy, Debug, PartialEq, Eq)]
+#[derive(Clone, Copy, Debug, PartialEq, Eq, Error)]
 pub enum NameErr {
     /// This part of the path does not have the form of such a name, and those before it have.
+    #[error("bad {0} name")]
     Bad(NameKind),
-    /// Memory ran out.
+    /// Out of memory.
+    #[error("out of memory")]
     Memory,
 }
 
@@ -82,7 +97,7 @@ impl From<Memory> for NameErr {
     }
 }
 
-// What stands behind this text at the front.
+// What stands after this text at the front.
 fn after_prefix<'a>(prefix: &[u8], text: &'a [u8]) -> Option<&'a [u8]>
     ensures { MatchOption result ((rest : Text) → text.now ≢ prefix.now ++ rest) (λ rest. text.now ≡ prefix.now ++ rest.now) }
 {
@@ -100,15 +115,9 @@ fn before_suffix<'a>(suffix: &[u8], text: &'a [u8]) -> Option<&'a [u8]>
 fn file_version<'a>(pn: &[u8], file: &'a [u8]) -> Option<&'a [u8]>
     ensures { MatchOption result (¬ IsFileOf pn.now file.now) (λ version. IsVersionAt pn.now file.now version.now) }
 {
-    let Some(behind) = after_prefix(pn, file) else {
-        return None;
-    };
-    let Some(behind_hyphen) = after_prefix(b"-", behind) else {
-        return None;
-    };
-    let Some(version) = before_suffix(b".ebuild", behind_hyphen) else {
-        return None;
-    };
+    let after = after_prefix(pn, file)?;
+    let after_hyphen = after_prefix(b"-", after)?;
+    let version = before_suffix(b".ebuild", after_hyphen)?;
     if read_version(version) {
         Some(version)
     } else {
@@ -116,7 +125,7 @@ fn file_version<'a>(pn: &[u8], file: &'a [u8]) -> Option<&'a [u8]>
     }
 }
 
-// The version of a path, or the first part that does not hold.
+// The version of a path, or its first bad part.
 fn path_version(at: &EbuildPath) -> Result<&[u8], NameKind>
     ensures ok { IfOk result (λ version. IsVersionAt at.now.«package» at.now.file version.now) }
     ensures category { IfOk result (λ version. is_category_name at.now.category ≡ true) }
@@ -153,9 +162,9 @@ fn split_revision(version: &[u8]) -> (&[u8], &[u8])
     }
 }
 
-// The revision behind its hyphen, `r0` where there is none.
+// The revision after its hyphen, `r0` where there is none.
 fn revision_name(revision: &[u8]) -> &[u8]
-    ensures { result.now ≡ behind_hyphen revision.now }
+    ensures { result.now ≡ after_hyphen revision.now }
 {
     match revision {
         [] => b"r0",
@@ -190,12 +199,22 @@ fn texts_of(alloc: Global, at: &EbuildPath, version: &[u8]) -> Result<Names, Mem
     })
 }
 
+/// The first part of a path that does not have the form of such a name, `None` where the path gives names. Takes no
+/// memory.
+pub fn bad_kind(at: &EbuildPath) -> Option<NameKind>
+    ensures first { result ≡ first_bad_kind at.now }
+    ensures bad { (kind : NameKind) → (result ≡ Some kind) ↔ IsBad at.now kind }
+{
+    path_version(at).err()
+}
+
 /// The names that the path of an ebuild gives: its category is one, its package's folder has a package's name, and its
-/// file has the package's name, a hyphen, a version and `.ebuild` (Package Manager Specification, "Names and Versions").
+/// file has the package's name, a hyphen, a version and `.ebuild` (Package Manager Specification, "Names and
+/// Versions").
 ///
 /// # Errors
-/// `Bad` exactly where one of the three does not hold, with the first such part; that takes no memory. `Memory` where
-/// there is no room for the names.
+/// `Bad` exactly where one of the three is not so, with the first such part, as `bad_kind` gives it; that takes no
+/// memory. `Memory` where there is no room for the names.
 pub fn read_path(alloc: Global, at: &EbuildPath) -> Result<Names, NameErr>
     ensures ok { IfOk result (λ names. GivesNames at.now names) }
     ensures bad { (kind : NameKind) → (result ≡ Err (NameErr.Bad kind)) ↔ IsBad at.now kind }

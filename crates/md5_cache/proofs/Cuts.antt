@@ -1,11 +1,13 @@
 -- A text can be cut at the first of some bytes in one way only.
-use Rattle.std.proofs.Common.{◌≡◌, ℕ, ◌-◌, ◌<◌, ◌≤◌, Bool, true, false, [], ◌∷◌, ◌++◌, length, get_or, take, drop, refl, sym, ap, subst, ◌∙◌, append-nil, append_assoc, length-drop, arith}
+use Rattle.std.proofs.Common.{◌≡◌, ℕ, ◌-◌, ◌<◌, ◌≤◌, Bool, true, false, not, ◌==◌, Option, Some, None, [], ◌∷◌, ◌++◌, length, get_or, take, drop, refl, sym, ap, subst, ◌∙◌, append-nil, append_assoc, length-drop, arith}
 use Rattle.std.specs.List.{AllPass, prefix_len}
+use Rattle.std.specs.Option.{unwrap_or}
 use Rattle.std.proofs.lemmas.Bool.Decides.{nat_tests}
 use Rattle.std.proofs.lemmas.List.{take-append-drop}
 use Rattle.std.proofs.lemmas.List.Elements.{All-append, All-cons, All-head, All-tail, All-weaker}
-use Rattle.std.proofs.lemmas.List.Sums.{prefix_len_stops}
+use Rattle.std.proofs.lemmas.List.Sums.{prefix_len_is, prefix_len_stops}
 use Rattle.std.proofs.Math.Seq.{drop-cons}
+use Rattle.memchr.specs.Find.{IsFirstByte, is_byte}
 use Rattle.eapi_tables.proofs.EapiParts.{front_is, nil_is}
 use Rattle.eapi_tables.proofs.Runs.{AllPass-take, starts, drop_is, take_is}
 use Rattle.eb_bytes.specs.Text.{Text}
@@ -43,29 +45,44 @@ weaker p q t h all = All-weaker (λ b. p b ≡ true) (λ b. q b ≡ true) h t al
 
 -- ---- where a text is cut
 
+differs-other : (c x : ℕ) → (is_byte c x ≡ true → ⊥) → differs c x ≡ true
+differs-other c x apart = on (x == c) refl
+  where
+    on : (v : Bool) → (x == c) ≡ v → not v ≡ true
+    on true e = absurd (apart e)
+    on false e = refl
+
+-- the first byte c stands after the longest run of other bytes
+pub prefix_len-first : (c : ℕ) (text : Text) (found : Option ℕ) → IsFirstByte (is_byte c) text found → unwrap_or found (length text) ≡ prefix_len (differs c) text
+prefix_len-first c text None none =
+    sym (prefix_len_is (differs c) text (length text) 0 (omega arith) (λ k below. differs-other c (get_or text k 0) (none k (omega arith) below)) (λ past. absurd (omega arith)))
+prefix_len-first c text (Some n) first =
+    let within : n < length text = first.0.high in
+    sym (prefix_len_is (differs c) text n 0 (omega arith) (λ k below. differs-other c (get_or text k 0) (first.0.before k (omega arith) below)) (λ _. ap not first.1))
+
 differs-none : (x c : ℕ) → differs c x ≡ false → x ≡ c
 differs-none x c h = grind (arith, nat_tests)
 
 pub cut_is : (c : ℕ) (text front back : Text) (n : ℕ) → n ≡ prefix_len (differs c) text → front ≡ take n text → back ≡ drop n text
     → 1 ≤ length back → IsCut c text front (take (length back - 1) (drop 1 back))
-cut_is c text front back n count before behind some =
-    let len : length back ≡ length text - n = ap length behind ∙ length-drop n text in
+cut_is c text front back n count before after some =
+    let len : length back ≡ length text - n = ap length after ∙ length-drop n text in
     let below : n < length text = omega (arith, len) in
     let stops : prefix_len (differs c) text < length text = subst (λ m. m < length text) count below in
     let same : get_or text n 0 ≡ c =
     ap (λ m. get_or text m 0) count ∙ differs-none (get_or text (prefix_len (differs c) text) 0) c (prefix_len_stops (differs c) text 0 stops) in
-    let first : get_or back 0 0 ≡ c = ap (λ t. get_or t 0 0) (behind ∙ drop-cons text n 0 below) ∙ same in
+    let first : get_or back 0 0 ≡ c = ap (λ t. get_or t 0 0) (after ∙ drop-cons text n 0 below) ∙ same in
     record {
       is =
           sym (take-append-drop n text) ∙ ap (λ t. t ++ drop n text) (sym before)
-          ∙ ap (λ t. front ++ t) (sym behind ∙ front_is back c some first);
+          ∙ ap (λ t. front ++ t) (sym after ∙ front_is back c some first);
       lacks = subst (AllPass (differs c)) (sym (before ∙ ap (λ m. take m text) count)) (AllPass-take (differs c) text);
     }
 
 pub cut_none : (c : ℕ) (text back : Text) (n : ℕ) → n ≡ prefix_len (differs c) text → back ≡ drop n text → length back < 1 → Lacks c text
-cut_none c text back n count behind none =
+cut_none c text back n count after none =
     let whole : take n text ≡ text =
-    sym (append-nil (take n text)) ∙ ap (λ t. take n text ++ t) (sym (nil_is back none) ∙ behind) ∙ take-append-drop n text in
+    sym (append-nil (take n text)) ∙ ap (λ t. take n text ++ t) (sym (nil_is back none) ∙ after) ∙ take-append-drop n text in
     subst (AllPass (differs c)) (sym (ap (λ m. take m text) count) ∙ whole) (AllPass-take (differs c) text)
 
 -- a text that holds a byte does not lack it
@@ -76,9 +93,9 @@ lacks-absurd c [] r h =
     cc same
 lacks-absurd c (x ∷ a) r h = lacks-absurd c a r (All-tail (λ b. differs c b ≡ true) x (a ++ (c ∷ r)) h)
 
-pub lacks-behind : (c : ℕ) (a b : Text) → Lacks c (a ++ b) → Lacks c b
-lacks-behind c [] b h = h
-lacks-behind c (x ∷ a) b h = lacks-behind c a b (All-tail (λ y. differs c y ≡ true) x (a ++ b) h)
+pub lacks-after : (c : ℕ) (a b : Text) → Lacks c (a ++ b) → Lacks c b
+lacks-after c [] b h = h
+lacks-after c (x ∷ a) b h = lacks-after c a b (All-tail (λ y. differs c y ≡ true) x (a ++ b) h)
 
 -- ---- the first line
 
@@ -103,5 +120,5 @@ pub line_is : (text front rest name value : Text) → IsCut 10 text front rest �
 line_is text front rest name value at inside = record {
   is = at.is ∙ ap (λ t. t ++ (10 ∷ rest)) inside.is ∙ sym (line_content name value rest);
   name_lacks = inside.lacks;
-  value_lacks = lacks-behind 10 (name ++ 61 ∷ []) value (subst (Lacks 10) (inside.is ∙ sym (append_assoc name (61 ∷ []) value)) at.lacks);
+  value_lacks = lacks-after 10 (name ++ 61 ∷ []) value (subst (Lacks 10) (inside.is ∙ sym (append_assoc name (61 ∷ []) value)) at.lacks);
 }

@@ -5,7 +5,7 @@ use Rattle.std.proofs.lemmas.Bool.Decides.{nat_tests}
 use Rattle.std.proofs.lemmas.List.Elements.{All-append, All-cons, All-head, All-nil, All-tail}
 use Rattle.eb_digest.specs.Digest.{IsDigest, digest_text, is_lower_digit}
 use Rattle.eb_digest.proofs.Digits.{IsDigestText-digest_text, digest-read}
-use Rattle.eapi_tables.specs.EclassName.{is_name_byte}
+use Rattle.eapi_tables.specs.EclassName.{is_eclass_name_byte}
 use Rattle.eapi_tables.proofs.Runs.{starts}
 use Rattle.eb_bytes.specs.Text.{Text}
 use Rattle.md5_cache.specs.Parts.{IsEclass, Lacks, after_eclass, differs, record_with}
@@ -32,11 +32,11 @@ digest_text-one d e hd he same =
 
 -- ---- an eclass
 
-name-differs : (c b : ℕ) → c < 45 → is_name_byte b ≡ true → differs c b ≡ true
+name-differs : (c b : ℕ) → c < 45 → is_eclass_name_byte b ≡ true → differs c b ≡ true
 name-differs c b h d = grind (arith, nat_tests)
 
-pub name-lacks : (c : ℕ) (name : Text) → c < 45 → AllPass is_name_byte name → Lacks c name
-name-lacks c name h all = weaker is_name_byte (differs c) name (λ b. name-differs c b h) all
+pub name-lacks : (c : ℕ) (name : Text) → c < 45 → AllPass is_eclass_name_byte name → Lacks c name
+name-lacks c name h all = weaker is_eclass_name_byte (differs c) name (λ b. name-differs c b h) all
 
 pub eclass_parts : (e : Pair) (x : Text) → eclass_text e ++ x ≡ e.0 ++ (9 ∷ (digest_text e.1 ++ x))
 eclass_parts e x = simp append_assoc

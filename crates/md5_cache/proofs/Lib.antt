@@ -1,3 +1,4 @@
+pub mod Agreed
 pub mod Cuts
 pub mod EclassRecords
 pub mod Example

@@ -1,4 +1,4 @@
--- Reading the lines behind the values, and the whole text.
+-- Reading the lines after the values, and the whole text.
 use Rattle.std.proofs.Common.{◌≡◌, List, [], ◌∷◌, ◌++◌, length, refl, sym, ap, ◌∙◌, append-nil, arith}
 use Rattle.std.specs.Prelude.{codes}
 use Rattle.std.specs.List.{flat_map}
@@ -96,10 +96,10 @@ no_record-no_last text name value rest at named none [] m are = not_md5 text nam
 no_record-no_last text name value rest at named none (e ∷ es) m are =
     none (e ∷ es) (record { is = (last_parts text name value rest e es m at are).1.0; some = λ h. cc h; sound = are.sound })
 
-pub no_md5_behind-no_last : (text name value rest : Text) → BeginsLine text name value rest → name ≡ codes "_eclasses_"
+pub no_md5_after-no_last : (text name value rest : Text) → BeginsLine text name value rest → name ≡ codes "_eclasses_"
     → ((m : Text) → IsMd5Line rest m → ⊥) → (es : List Pair) (m : Text) → AreLastLines text es m → ⊥
-no_md5_behind-no_last text name value rest at named none [] m are = not_md5 text name value rest m at named are.is are.digest
-no_md5_behind-no_last text name value rest at named none (e ∷ es) m are =
+no_md5_after-no_last text name value rest at named none [] m are = not_md5 text name value rest m at named are.is are.digest
+no_md5_after-no_last text name value rest at named none (e ∷ es) m are =
     none m (record { is = (last_parts text name value rest e es m at are).1.1; digest = are.digest })
 
 pub last_is : (text name value rest : Text) (es : List Pair) (m : Text) → BeginsLine text name value rest → name ≡ codes "_eclasses_"

@@ -20,28 +20,28 @@ pub no_tab-no_eclass : (text : Text) → Lacks 9 text → HasNoEclass text
 no_tab-no_eclass text h e rest sound is =
     lacks-absurd 9 e.0 (digest_text e.1 ++ after_eclass rest) (subst (Lacks 9) (is ∙ eclass_parts e (after_eclass rest)) h)
 
--- the name, and what stands behind it
-same_parts : (text name behind : Text) (e : Pair) (rest : Option Text) → IsCut 9 text name behind → IsEclass e
-    → text ≡ eclass_text e ++ after_eclass rest → (name ≡ e.0) × (behind ≡ digest_text e.1 ++ after_eclass rest)
-same_parts text name behind e rest at sound is =
-    cut_one 9 name behind e.0 (digest_text e.1 ++ after_eclass rest) at.lacks (name-lacks 9 e.0 (omega arith) sound.name.bytes)
+-- the name, and what stands after it
+same_parts : (text name after : Text) (e : Pair) (rest : Option Text) → IsCut 9 text name after → IsEclass e
+    → text ≡ eclass_text e ++ after_eclass rest → (name ≡ e.0) × (after ≡ digest_text e.1 ++ after_eclass rest)
+same_parts text name after e rest at sound is =
+    cut_one 9 name after e.0 (digest_text e.1 ++ after_eclass rest) at.lacks (name-lacks 9 e.0 (omega arith) sound.name.bytes)
     (sym at.is ∙ is ∙ eclass_parts e (after_eclass rest))
 
-pub no_name-no_eclass : (text name behind : Text) → IsCut 9 text name behind → (IsEclassName name → ⊥) → HasNoEclass text
-no_name-no_eclass text name behind at none e rest sound is =
-    none (subst IsEclassName (sym (same_parts text name behind e rest at sound is).0) sound.name)
+pub no_name-no_eclass : (text name after : Text) → IsCut 9 text name after → (IsEclassName name → ⊥) → HasNoEclass text
+no_name-no_eclass text name after at none e rest sound is =
+    none (subst IsEclassName (sym (same_parts text name after e rest at sound is).0) sound.name)
 
-pub no_digest-no_eclass : (text name behind field : Text) (more : Option Text) → IsCut 9 text name behind
-    → behind ≡ field ++ after_eclass more → Lacks 9 field → ((d : Text) → IsDigest d → field ≡ digest_text d → ⊥) → HasNoEclass text
-no_digest-no_eclass text name behind field more at parts lacks none e rest sound is =
-    let both = same_parts text name behind e rest at sound is in
+pub no_digest-no_eclass : (text name after field : Text) (more : Option Text) → IsCut 9 text name after
+    → after ≡ field ++ after_eclass more → Lacks 9 field → ((d : Text) → IsDigest d → field ≡ digest_text d → ⊥) → HasNoEclass text
+no_digest-no_eclass text name after field more at parts lacks none e rest sound is =
+    let both = same_parts text name after e rest at sound is in
     let same = run_one (differs 9) field (after_eclass more) (digest_text e.1) (after_eclass rest) lacks (digest-lacks 9 e.1 (omega arith) sound.digest)
     (stops more) (stops rest) (sym parts ∙ both.1) in
     none e.1 sound.digest same.0
 
-pub eclass_is : (text name behind field md5 : Text) (more : Option Text) → IsCut 9 text name behind → behind ≡ field ++ after_eclass more
+pub eclass_is : (text name after field md5 : Text) (more : Option Text) → IsCut 9 text name after → after ≡ field ++ after_eclass more
     → IsEclassName name → field ≡ digest_text md5 → IsDigest md5 → BeginsEclass text (name, md5) more
-eclass_is text name behind field md5 more at parts named digits is = record {
+eclass_is text name after field md5 more at parts named digits is = record {
   is =
       at.is ∙ ap (λ t. name ++ (9 ∷ t)) (parts ∙ ap (λ t. t ++ after_eclass more) digits)
       ∙ sym (append_assoc name (9 ∷ digest_text md5) (after_eclass more));

@@ -7,12 +7,11 @@ use Rattle.std.specs.Ordering.{nat_cmp}
 use Rattle.std.specs.Cmp.Lexicographic.{pointwise}
 use Rattle.eb_bytes.specs.Text.{Text, has_bytes, norm}
 use Rattle.eb_digest.specs.Digest.{IsDigest, digest_text}
-use Rattle.eapi_tables.specs.Eapi.{eapi_text, has_key}
+use Rattle.eapi_tables.specs.Eapi.{all_eapis, eapi_text, has_key}
 use Rattle.eapi_tables.specs.EclassName.{IsEclassName}
 use Rattle.eapi_tables.specs.Key.{all_keys, key_name, key_place}
 use Rattle.md5_cache.specs.Record.{AreByName, record_text}
 use Rattle.eapi_tables.specs.declared.eapi.Eapi.{Eapi}
-use Rattle.eapi_tables.specs.declared.eapi.Eapi.TheVariants.{E0, E1, E2, E3, E4, E5, E6, E7, E8}
 use Rattle.eapi_tables.specs.declared.key.Key.{Key}
 use Rattle.eapi_tables.specs.declared.key.Key.TheVariants as key
 
@@ -44,7 +43,7 @@ is_complete values = list_all (λ k. has_bytes (words_of k values)) always_keys
 
 -- the EAPI of this text
 abbrev pub named_eapi : Text → Option Eapi
-named_eapi text = find (λ eapi. pointwise nat_eq (eapi_text eapi) text) (E0 ∷ E1 ∷ E2 ∷ E3 ∷ E4 ∷ E5 ∷ E6 ∷ E7 ∷ E8 ∷ [])
+named_eapi text = find (λ eapi. pointwise nat_eq (eapi_text eapi) text) all_eapis
 
 -- the EAPI that the values name
 abbrev pub eapi_of : List (Key × Text) → Option Eapi

@@ -1,6 +1,7 @@
--- What the lines of an entry's text say before the rules of entries are asked of it, for the functions that read it.
-use Rattle.std.specs.Prelude.{◌≡◌, ◌≢◌, ℕ, Bool, not, ◌==◌, List, [], ◌∷◌, ◌++◌, All, Option, Some, None, IsTrue, codes}
-use Rattle.std.specs.List.{AllPass, flat_map}
+-- What the lines of an entry's text say before the rules of entries are checked, for the functions that read it.
+use Rattle.std.specs.Prelude.{◌≡◌, ◌≢◌, ℕ, Bool, not, ◌==◌, ◌||◌, nat_eq, List, [], ◌∷◌, ◌++◌, All, Option, Some, None, IsTrue, codes}
+use Rattle.std.specs.Cmp.Lexicographic.{pointwise}
+use Rattle.std.specs.List.{AllPass, flat_map, list_all}
 use Rattle.eb_bytes.specs.Text.{Text, has_bytes, norm}
 use Rattle.eb_digest.specs.Digest.{IsDigest, digest_text}
 use Rattle.eapi_tables.specs.Eapi.{has_key}
@@ -18,7 +19,7 @@ differs c b = not (b == c)
 abbrev pub Lacks : ℕ → Text → Type 0
 Lacks c text = AllPass (differs c) text
 
--- the text is cut at the first byte c: what stands before it, and behind it
+-- the text is cut at the first byte c: what stands before it, and after it
 pub record IsCut (c : ℕ) (text front rest : Text) : Type 0 where
   pub is : text ≡ front ++ (c ∷ rest)
   pub lacks : Lacks c front
@@ -52,6 +53,14 @@ pub record AreFirstValues (text : Text) (values : List (Key × Text)) (rest : Te
 pub record IsEclass (eclass : Text × Text) : Type 0 where
   pub name : IsEclassName eclass.0
   pub digest : IsDigest eclass.1
+
+-- whether these are not two MD5s of one name
+abbrev pub agree : Text × Text → Text × Text → Bool
+agree a b = not (pointwise nat_eq a.0 b.0) || pointwise nat_eq a.1 b.1
+
+-- whether no two of these are two MD5s of one name
+abbrev pub all_agree : List (Text × Text) → Bool
+all_agree eclasses = list_all (λ eclass. list_all (agree eclass) eclasses) eclasses
 
 -- what may follow an eclass in the record: nothing, or a tab and this text
 abbrev pub after_eclass : Option Text → Text

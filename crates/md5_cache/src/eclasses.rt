@@ -9,14 +9,14 @@ use eb_bytes::{Bytes, Memory};
 use eb_digest::Digest;
 use std::alloc::Global;
 
-// A field at the front of a text, and where a tab follows, what stands behind it.
+// A field at the front of a text, and where a tab follows, what stands after it.
 #[derive(Clone, Copy)]
 struct Field<'a> {
     text: &'a [u8],
     rest: Option<&'a [u8]>,
 }
 
-// An eclass at the front of a text, and where a tab follows, what stands behind it.
+// An eclass at the front of a text, and where a tab follows, what stands after it.
 #[derive(Clone, Copy)]
 struct FirstEclass<'a> {
     name: &'a [u8],
@@ -40,16 +40,12 @@ fn first_field(text: &[u8]) -> Field<'_>
 fn first_eclass(text: &[u8]) -> Option<FirstEclass<'_>>
     ensures { MatchOption result (HasNoEclass text.now) (λ found. BeginsEclass text.now (found.name.now, found.md5) (option_copied found.rest)) }
 {
-    let Some((name, behind)) = cut(text, b'\t') else {
-        return None;
-    };
+    let (name, after) = cut(text, b'\t')?;
     if !is_eclass_name(name) {
         return None;
     }
-    let field = first_field(behind);
-    let Ok(md5) = Digest::read(field.text) else {
-        return None;
-    };
+    let field = first_field(after);
+    let md5 = Digest::read(field.text).ok()?;
     Some(FirstEclass {
         name,
         md5: as_digest(md5),
@@ -57,7 +53,7 @@ fn first_eclass(text: &[u8]) -> Option<FirstEclass<'_>>
     })
 }
 
-// The eclasses that a record names, in its order, if the text is the record of some.
+// The eclasses of a record, in its order, if the text is a record of at least one.
 pub fn read_record(alloc: Global, text: &[u8]) -> Result<Option<Vec<(Bytes, Digest)>>, Memory>
     ensures { IfOk result (λ found. MatchOption found (IsNoRecord text.now) (λ list. IsRecordText text.now list.items)) }
 {

@@ -15,8 +15,9 @@ use eb_bytes::{Bytes, Memory, join_words};
 use eb_digest::Digest;
 use std::alloc::Global;
 use std::marker::Model;
+use thiserror::Error;
 
-/// What a cache says of one ebuild: the values of its keys, the eclasses that were read, and its MD5.
+/// What the cache records of one ebuild: the values of its keys, the eclasses that were read, and its MD5.
 #[derive(Drop)]
 pub struct Entry {
     values: Vec<(Key, Bytes)>,
@@ -35,13 +36,16 @@ impl Model for Entry {
 }
 
 /// Why there is no entry.
-#[derive(Clone, Copy, Debug, PartialEq, Eq)]
+#[derive(Clone, Copy, Debug, PartialEq, Eq, Error)]
 pub enum EntryErr {
     /// A key that stands in every entry has no words.
+    #[error("no EAPI, DEFINED_PHASES or SLOT")]
     Incomplete,
     /// A text is that of no entry.
+    #[error("not the text of a cache entry")]
     BadEntry,
-    /// Memory ran out.
+    /// Out of memory.
+    #[error("out of memory")]
     Memory,
 }
 
@@ -147,8 +151,9 @@ impl Entry {
     /// were, and of the ebuild's MD5. A value becomes its words joined by one blank; a key without words, or that the
     /// EAPI does not have, is left out; of two values of one key the first counts.
     ///
-    /// Asks that no value holds byte 0, that the value of EAPI, where it has words, is one digit from 0 to 8, that the
-    /// eclasses have names of eclasses (`is_eclass_name`), and that one name has one MD5.
+    /// Requires that no value holds byte 0 (`has_no_zero`), that the value of EAPI, where it has words, is one digit
+    /// from 0 to 8, that the eclasses have names of eclasses (`is_eclass_name`), and that each name has one MD5
+    /// (`have_one_md5`).
     ///
     /// # Errors
     /// `Incomplete` where EAPI, DEFINED_PHASES or SLOT has no words, and `Memory` where there is no room.
@@ -238,6 +243,3 @@ impl Entry {
         self.md5
     }
 }
-
-#[cfg(test)]
-mod tests;

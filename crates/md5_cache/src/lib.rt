@@ -12,4 +12,5 @@ mod write;
 
 pub use entry::{Entry, EntryErr};
 pub use read::read_entry;
+pub use rules::{has_no_zero, have_one_md5};
 pub use write::write_entry;

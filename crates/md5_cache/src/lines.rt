@@ -3,8 +3,9 @@ ghost use Rattle.std.specs.List.{prefix_len};
 ghost use Rattle.md5_cache.specs.Parts.{BeginsLine, BeginsValue, HasNoLine, HasNoValueLine, IsCut, Lacks, differs};
 
 use eapi_tables::Key;
+use memchr::memchr;
 
-// A line `NAME=value` at the front of a text, and what stands behind its newline.
+// A line `NAME=value` at the front of a text, and what stands after its newline.
 #[derive(Clone, Copy)]
 pub struct Line<'a> {
     pub name: &'a [u8],
@@ -12,7 +13,7 @@ pub struct Line<'a> {
     pub rest: &'a [u8],
 }
 
-// A line `KEY=value` at the front of a text, and what stands behind its newline.
+// A line `KEY=value` at the front of a text, and what stands after its newline.
 #[derive(Clone, Copy)]
 pub struct ValueLine<'a> {
     pub key: Key,
@@ -24,10 +25,10 @@ pub struct ValueLine<'a> {
 fn len_before(text: &[u8], byte: u8) -> usize
     ensures { result ≡ prefix_len (differs byte) text.now }
 {
-    text.iter().take_while(|b| **b != byte).count()
+    memchr(byte, text).unwrap_or(text.len())
 }
 
-// What stands before the first byte of this value, and behind it.
+// What stands before the first byte of this value, and after it.
 pub fn cut(text: &[u8], byte: u8) -> Option<(&[u8], &[u8])>
     ensures { MatchOption result (Lacks byte text.now) (λ cut. IsCut byte text.now cut.0.now cut.1.now) }
 {
@@ -42,12 +43,8 @@ pub fn cut(text: &[u8], byte: u8) -> Option<(&[u8], &[u8])>
 pub fn first_line(text: &[u8]) -> Option<Line<'_>>
     ensures { MatchOption result (HasNoLine text.now) (λ found. BeginsLine text.now found.name.now found.value.now found.rest.now) }
 {
-    let Some((content, rest)) = cut(text, b'\n') else {
-        return None;
-    };
-    let Some((name, value)) = cut(content, b'=') else {
-        return None;
-    };
+    let (content, rest) = cut(text, b'\n')?;
+    let (name, value) = cut(content, b'=')?;
     Some(Line { name, value, rest })
 }
 
@@ -55,12 +52,8 @@ pub fn first_line(text: &[u8]) -> Option<Line<'_>>
 pub fn first_value(text: &[u8]) -> Option<ValueLine<'_>>
     ensures { MatchOption result (HasNoValueLine text.now) (λ found. BeginsValue text.now (found.key, found.value.now) found.rest.now) }
 {
-    let Some(line) = first_line(text) else {
-        return None;
-    };
-    let Some(key) = Key::read(line.name) else {
-        return None;
-    };
+    let line = first_line(text)?;
+    let key = Key::read(line.name)?;
     Some(ValueLine {
         key,
         value: line.value,

@@ -10,21 +10,21 @@ use eb_bytes::{Bytes, Memory};
 use eb_digest::Digest;
 use std::alloc::Global;
 
-// The values of the first lines, and what stands behind these.
+// The values of the first lines, and what stands after these.
 #[derive(Drop)]
 struct FirstValues<'a> {
     values: Vec<(Key, Bytes)>,
     rest: &'a [u8],
 }
 
-// What the lines behind the values say.
+// What the lines after the values say.
 #[derive(Drop)]
 struct LastLines {
     eclasses: Vec<(Bytes, Digest)>,
     md5: Digest,
 }
 
-// What the lines of a text say, before the rules of entries are asked of it.
+// What the lines of a text say, before the rules of entries are checked.
 #[derive(Drop)]
 pub struct Parts {
     pub values: Vec<(Key, Bytes)>,
@@ -50,23 +50,19 @@ fn is_text(text: &[u8], other: &[u8]) -> bool
     text == other
 }
 
-// The MD5 of a text that is the line of it.
+// The MD5 where the text is the line of one.
 fn read_md5(text: &[u8]) -> Option<Digest>
     ensures { MatchOption result ((md5 : List ℕ) → ¬ IsMd5Line text.now md5) (λ md5. IsMd5Line text.now md5) }
 {
-    let Some(line) = first_line(text) else {
-        return None;
-    };
+    let line = first_line(text)?;
     if !is_text(line.name, b"_md5_") {
         return None;
     }
     if !is_text(line.rest, b"") {
         return None;
     }
-    match Digest::read(line.value) {
-        Ok(md5) => Some(as_digest(md5)),
-        Err(_) => None,
-    }
+    let md5 = Digest::read(line.value).ok()?;
+    Some(as_digest(md5))
 }
 
 // What the lines of the eclasses and of the MD5 say, if the text is these.

@@ -21,6 +21,3 @@ pub fn read_entry(alloc: Global, text: &[u8]) -> Result<Entry, EntryErr>
         None => Err(EntryErr::BadEntry),
     }
 }
-
-#[cfg(test)]
-mod tests;

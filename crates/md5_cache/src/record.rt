@@ -7,7 +7,7 @@ use eb_digest::Digest;
 use std::alloc::Global;
 use std::collections::BTreeMap;
 
-// Says of a digest that it is one.
+// The same digest, with the fact that it is one.
 pub(crate) fn as_digest(md5: Digest) -> Digest
     ensures same { result ≡ md5 }
     ensures digest { IsDigest md5 }

@@ -9,7 +9,7 @@ use Rattle.eb_bytes.specs.Text.{Text}
 use Rattle.version_funcs.specs.Byte.{is_separator, after_while}
 use Rattle.version_funcs.specs.Pieces.{Piece, Pieces, joined_rest, pieces}
 use Rattle.version_funcs.specs.Range.{Range, components, cut, cut_rest, cut_text, range_of}
-use Rattle.version_funcs.specs.Seen.{behind_component, clamped, fellows, leading_component}
+use Rattle.version_funcs.specs.Seen.{after_component, clamped, fellows, leading_component}
 use Rattle.version_funcs.proofs.Splits.{first-separators, joined-pieces, length-rest, nil_since, rest-clear, rest-separators}
 
 first_component : List Piece → Text
@@ -31,17 +31,17 @@ unfolding first_component
 front k [] = record { front = []; whole = ap joined_rest (sym (drop_all k [] (omega arith))); chosen = ap first_component (sym (drop_all k [] (omega arith))) }
 front zero (p ∷ more) = record { front = []; whole = refl; chosen = refl }
 front (suc k) (p ∷ more) =
-    let behind : Front k more = front k more in
+    let after : Front k more = front k more in
     record {
-      front = p.component ++ (p.separator ++ behind.front);
+      front = p.component ++ (p.separator ++ after.front);
       whole =
-          ap (λ (t : Text). p.component ++ (p.separator ++ t)) behind.whole
-          ∙ ap (λ (t : Text). p.component ++ t) (sym (append_assoc p.separator behind.front (joined_rest (drop k more))))
-          ∙ sym (append_assoc p.component (p.separator ++ behind.front) (joined_rest (drop k more)));
+          ap (λ (t : Text). p.component ++ (p.separator ++ t)) after.whole
+          ∙ ap (λ (t : Text). p.component ++ t) (sym (append_assoc p.separator after.front (joined_rest (drop k more))))
+          ∙ sym (append_assoc p.component (p.separator ++ after.front) (joined_rest (drop k more)));
       chosen =
-          ap (λ (t : Text). p.component ++ (p.separator ++ t)) behind.chosen
-          ∙ ap (λ (t : Text). p.component ++ t) (sym (append_assoc p.separator behind.front (first_component (drop k more))))
-          ∙ sym (append_assoc p.component (p.separator ++ behind.front) (first_component (drop k more)));
+          ap (λ (t : Text). p.component ++ (p.separator ++ t)) after.chosen
+          ∙ ap (λ (t : Text). p.component ++ t) (sym (append_assoc p.separator after.front (first_component (drop k more))))
+          ∙ sym (append_assoc p.component (p.separator ++ after.front) (first_component (drop k more)));
     }
 
 -- a text that begins with no separator is its components with their separators
@@ -61,9 +61,9 @@ leading-first t clear = elim (cases_Bool (length t == 0)) [ inl none ↦ on_none
 -- the first components of a text, as they are read: up to the last one wanted, and with it
 pub record IsRead (text last component chosen : Text) : Type 0 where
   pub front : Text
-  pub behind : Text
-  pub whole : text ≡ front ++ (component ++ behind)
-  pub end : last ≡ component ++ behind
+  pub after : Text
+  pub whole : text ≡ front ++ (component ++ after)
+  pub end : last ≡ component ++ after
   pub read : chosen ≡ front ++ component
 
 pub is_read : (text last component : Text) (k : ℕ) → (pieces text).first ≡ [] → (pieces last).first ≡ [] → (pieces last).rest ≡ drop k (pieces text).rest → component ≡ leading_component last → IsRead text last component (components (suc k) (pieces text).rest)
@@ -71,10 +71,10 @@ is_read text last component k clear_text clear_last left found =
     let cut = front k (pieces text).rest in
     let last_is : joined_rest (drop k (pieces text).rest) ≡ last = ap joined_rest (sym left) ∙ joined-clear last clear_last in
     let first_is : first_component (drop k (pieces text).rest) ≡ component = ap first_component (sym left) ∙ sym (leading-first last clear_last) ∙ sym found in
-    let end : last ≡ component ++ behind_component last = sym (take-append-drop (prefix_len (fellows (slice_index last 0)) last) last) ∙ ap (λ (c : Text). c ++ behind_component last) (sym found) in
+    let end : last ≡ component ++ after_component last = sym (take-append-drop (prefix_len (fellows (slice_index last 0)) last) last) ∙ ap (λ (c : Text). c ++ after_component last) (sym found) in
     record {
       front = cut.front;
-      behind = behind_component last;
+      after = after_component last;
       whole = sym (joined-clear text clear_text) ∙ cut.whole ∙ ap (λ (t : Text). cut.front ++ t) (last_is ∙ end);
       end = end;
       read = cut.chosen ∙ ap (λ (t : Text). cut.front ++ t) first_is;
@@ -82,21 +82,21 @@ is_read text last component k clear_text clear_last left found =
 
 pub read-bounds : (text last component chosen : Text) → IsRead text last component chosen → (length last ≤ length text) × (length text - length last + length component ≤ length text)
 read-bounds text last component chosen r =
-    let whole = ap length r.whole ∙ length-append r.front (component ++ r.behind) in
-    let end = ap length r.end ∙ length-append component r.behind in
-    let both = length-append component r.behind in
+    let whole = ap length r.whole ∙ length-append r.front (component ++ r.after) in
+    let end = ap length r.end ∙ length-append component r.after in
+    let both = length-append component r.after in
     (omega arith, omega arith)
 
 pub read-take : (text last component chosen : Text) → IsRead text last component chosen → take (length text - length last + length component) text ≡ chosen
 read-take text last component chosen r =
-    let whole = ap length r.whole ∙ length-append r.front (component ++ r.behind) in
-    let end = ap length r.end ∙ length-append component r.behind in
-    let both = length-append component r.behind in
+    let whole = ap length r.whole ∙ length-append r.front (component ++ r.after) in
+    let end = ap length r.end ∙ length-append component r.after in
+    let both = length-append component r.after in
     let taken = length-append r.front component in
     let n : length text - length last + length component ≡ length (r.front ++ component) = omega arith in
     ap (λ (n : ℕ). take n text) n
-    ∙ ap (take (length (r.front ++ component))) (r.whole ∙ sym (append_assoc r.front component r.behind))
-    ∙ take-append_seam (r.front ++ component) r.behind
+    ∙ ap (take (length (r.front ++ component))) (r.whole ∙ sym (append_assoc r.front component r.after))
+    ∙ take-append_seam (r.front ++ component) r.after
     ∙ sym r.read
 
 -- ---- clamped ranges

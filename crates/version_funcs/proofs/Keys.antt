@@ -13,9 +13,11 @@ use Rattle.std.proofs.lemmas.List.{reverse-append}
 use Rattle.eb_bytes.specs.Text.{Text}
 use Rattle.version_funcs.specs.declared.kind.SuffixKind.{SuffixKind}
 use Rattle.version_funcs.specs.declared.kind.SuffixKind.TheVariants.{Alpha, Beta, Pre, Candidate, Patch}
-use Rattle.version_funcs.specs.Byte.{is_digit, after_while, is_zero}
+use Rattle.eb_bytes.specs.Class.{is_digit, is_zero}
+use Rattle.version_funcs.specs.Byte.{after_while}
 use Rattle.version_funcs.specs.Version.{Suffix, Version, IsWellFormed, is_number, kind_rank}
-use Rattle.version_funcs.specs.Order.{value, begins_with_zero, without_last_zeros, number_order, component_order, suffix_order, suffixes_order, longer_order, revision_digits, version_order}
+use Rattle.version_funcs.specs.Number.{number, number_order}
+use Rattle.version_funcs.specs.Order.{begins_with_zero, without_last_zeros, component_order, suffix_order, suffixes_order, longer_order, revision_digits, version_order}
 use Rattle.version_funcs.specs.Laws.{IsReflexive, IsAntisymmetric, IsTransitive}
 use Rattle.version_funcs.proofs.Runs.{after_while-goes_on, after_while-stops}
 use Rattle.version_funcs.proofs.Marks.{first_true, rest_true}
@@ -81,7 +83,7 @@ mixed_order d s e t zero_digit other digit =
 
 abbrev key_by : Bool → Text → List ℕ
 key_by true c = 0 ∷ without_last_zeros c
-key_by false c = 1 ∷ value c ∷ []
+key_by false c = 1 ∷ number c ∷ []
 
 abbrev component_key : Text → List ℕ
 component_key c = key_by (begins_with_zero c) c
@@ -149,7 +151,7 @@ place-order Patch Candidate = refl
 place-order Patch Patch = refl
 
 abbrev suffix_key : Suffix → List ℕ
-suffix_key s = place s.kind ∷ value s.number ∷ []
+suffix_key s = place s.kind ∷ number s.number ∷ []
 
 abbrev suffixes_key : List Suffix → List (List ℕ)
 suffixes_key [] = (4 ∷ []) ∷ []
@@ -176,8 +178,8 @@ suffix_order-key s r =
 
 suffixes_order-key : (ss rs : List Suffix) → suffixes_order ss rs ≡ slice_cmp (slice_cmp nat_cmp) (suffixes_key ss) (suffixes_key rs)
 suffixes_order-key [] [] = refl
-suffixes_order-key [] (r ∷ rs) = end_first r.kind (value r.number) (slice_cmp (slice_cmp nat_cmp) [] (suffixes_key rs))
-suffixes_order-key (s ∷ ss) [] = end_second s.kind (value s.number) (slice_cmp (slice_cmp nat_cmp) (suffixes_key ss) [])
+suffixes_order-key [] (r ∷ rs) = end_first r.kind (number r.number) (slice_cmp (slice_cmp nat_cmp) [] (suffixes_key rs))
+suffixes_order-key (s ∷ ss) [] = end_second s.kind (number s.number) (slice_cmp (slice_cmp nat_cmp) (suffixes_key ss) [])
 suffixes_order-key (s ∷ ss) (r ∷ rs) =
     ap (λ (o : Ordering). ordering_then o (suffixes_order ss rs)) (suffix_order-key s r)
     ∙ ap (ordering_then (slice_cmp nat_cmp (suffix_key s) (suffix_key r))) (suffixes_order-key ss rs)
@@ -185,7 +187,7 @@ suffixes_order-key (s ∷ ss) (r ∷ rs) =
 -- ---- versions
 
 abbrev first_key : Version → ℕ
-first_key v = value v.first
+first_key v = number v.first
 
 abbrev later_key : Version → List (List ℕ)
 later_key v = map component_key v.later
@@ -194,7 +196,7 @@ abbrev suffix_keys : Version → List (List ℕ)
 suffix_keys v = suffixes_key v.suffixes
 
 abbrev revision_key : Version → ℕ
-revision_key v = value (revision_digits v.revision)
+revision_key v = number (revision_digits v.revision)
 
 abbrev key_order : Version → Version → Ordering
 key_order = then_cmp (on first_key nat_cmp) (then_cmp (on later_key (slice_cmp (slice_cmp nat_cmp))) (then_cmp (on (λ (v : Version). v.letter) (option_cmp nat_cmp)) (then_cmp (on suffix_keys (slice_cmp (slice_cmp nat_cmp))) (on revision_key nat_cmp))))

@@ -11,4 +11,3 @@ pub mod Runs
 pub mod Spelled
 pub mod Splits
 pub mod Unambiguous
-pub mod Value

@@ -1,4 +1,4 @@
--- Where runs of bytes end, and what stands behind each mark.
+-- Where runs of bytes end, and what stands after each mark.
 use Rattle.std.proofs.Common.{◌≡◌, ℕ, ◌-◌, ◌≤◌, ◌==◌, Bool, true, false, not, ◌&&◌, List, [], ◌∷◌, ◌++◌, length, take, drop, refl, ap, sym, ◌∙◌, arith}
 use Rattle.std.specs.List.{list_all, onto_first, prefix_len, take_while, slice_split}
 use Rattle.std.proofs.Math.Seq.{take-append_seam, drop-append_seam}
@@ -9,7 +9,7 @@ use Rattle.eb_bytes.specs.Text.{Text}
 use Rattle.version_funcs.proofs.Runs.{after_while-goes_on, after_while-stops, list_all-take_while, take_while-goes_on, take_while-stops}
 use Rattle.version_funcs.specs.Version.{marked}
 use Rattle.version_funcs.specs.Byte.{after_while, is_no}
-use Rattle.version_funcs.specs.Walk.{behind_marks, begins_piece}
+use Rattle.version_funcs.specs.Walk.{after_marks, begins_piece}
 
 -- ---- tests
 
@@ -76,27 +76,27 @@ cut p t = record { whole = sym (take-append-drop (prefix_len p t) t); run = list
 -- ---- marks
 
 -- the first piece, and those of what stands from the next mark on
-pub slice_split-next : (mark : ℕ) (t : Text) → slice_split (λ c. c == mark) t ≡ take_while (is_no mark) t ∷ behind_marks mark (after_while (is_no mark) t)
+pub slice_split-next : (mark : ℕ) (t : Text) → slice_split (λ c. c == mark) t ≡ take_while (is_no mark) t ∷ after_marks mark (after_while (is_no mark) t)
 slice_split-next mark [] = refl
 slice_split-next mark (b ∷ t) = on (b == mark) refl (slice_split-next mark t)
   where
-    on : (v : Bool) → (b == mark) ≡ v → slice_split (λ c. c == mark) t ≡ take_while (is_no mark) t ∷ behind_marks mark (after_while (is_no mark) t) → slice_split (λ c. c == mark) (b ∷ t) ≡ take_while (is_no mark) (b ∷ t) ∷ behind_marks mark (after_while (is_no mark) (b ∷ t))
+    on : (v : Bool) → (b == mark) ≡ v → slice_split (λ c. c == mark) t ≡ take_while (is_no mark) t ∷ after_marks mark (after_while (is_no mark) t) → slice_split (λ c. c == mark) (b ∷ t) ≡ take_while (is_no mark) (b ∷ t) ∷ after_marks mark (after_while (is_no mark) (b ∷ t))
     on true e rest = rw (take_while-stops (is_no mark) b t (ap not e), after_while-stops (is_no mark) b t (ap not e), slice_split-cons_yes (λ c. c == mark) b t e)
     on false e rest = rw (take_while-goes_on (is_no mark) b t (ap not e), after_while-goes_on (is_no mark) b t (ap not e), slice_split-cons_no (λ c. c == mark) b t e, rest)
 
-pub behind_marks-next : (mark b : ℕ) (t : Text) → behind_marks mark (b ∷ t) ≡ take_while (is_no mark) t ∷ behind_marks mark (after_while (is_no mark) t)
-behind_marks-next mark b t = slice_split-next mark t
+pub after_marks-next : (mark b : ℕ) (t : Text) → after_marks mark (b ∷ t) ≡ take_while (is_no mark) t ∷ after_marks mark (after_while (is_no mark) t)
+after_marks-next mark b t = slice_split-next mark t
 
--- the same where the text is cut behind its first byte
-pub behind_marks-at : (mark : ℕ) (t piece rest : Text) → 1 ≤ length t → piece ≡ take_while (is_no mark) (take (length t - 1) (drop 1 t)) → rest ≡ after_while (is_no mark) (take (length t - 1) (drop 1 t)) → behind_marks mark t ≡ piece ∷ behind_marks mark rest
-behind_marks-at mark [] piece rest some one others = absurd (omega arith)
-behind_marks-at mark (b ∷ t) piece rest some one others =
+-- the same where the text is cut after its first byte
+pub after_marks-at : (mark : ℕ) (t piece rest : Text) → 1 ≤ length t → piece ≡ take_while (is_no mark) (take (length t - 1) (drop 1 t)) → rest ≡ after_while (is_no mark) (take (length t - 1) (drop 1 t)) → after_marks mark t ≡ piece ∷ after_marks mark rest
+after_marks-at mark [] piece rest some one others = absurd (omega arith)
+after_marks-at mark (b ∷ t) piece rest some one others =
     let inner : take (length (b ∷ t) - 1) t ≡ t = take_all (length (b ∷ t) - 1) t (omega arith) in
-    behind_marks-next mark b t
-    ∙ ap (λ (front : Text). front ∷ behind_marks mark (after_while (is_no mark) t)) (sym (one ∙ ap (take_while (is_no mark)) inner))
-    ∙ ap (λ (back : Text). piece ∷ behind_marks mark back) (sym (others ∙ ap (after_while (is_no mark)) inner))
+    after_marks-next mark b t
+    ∙ ap (λ (front : Text). front ∷ after_marks mark (after_while (is_no mark) t)) (sym (one ∙ ap (take_while (is_no mark)) inner))
+    ∙ ap (λ (back : Text). piece ∷ after_marks mark back) (sym (others ∙ ap (after_while (is_no mark)) inner))
 
--- what stands behind each mark, put behind a mark each
+-- what stands after each mark, put after a mark each
 marked-slice_split : (mark : ℕ) (t : Text) → marked mark (slice_split (λ c. c == mark) t) ≡ mark ∷ t
 marked-slice_split mark [] = refl
 marked-slice_split mark (b ∷ t) = on (b == mark) refl (marked-slice_split mark t)
@@ -109,22 +109,22 @@ marked-slice_split mark (b ∷ t) = on (b == mark) refl (marked-slice_split mark
 
     on : (v : Bool) → (b == mark) ≡ v → marked mark (slice_split (λ c. c == mark) t) ≡ mark ∷ t → marked mark (slice_split (λ c. c == mark) (b ∷ t)) ≡ mark ∷ b ∷ t
     on true e rest = ap (marked mark) (slice_split-cons_yes (λ c. c == mark) b t e) ∙ ap (λ (u : Text). mark ∷ u) (rest ∙ ap (λ (a : ℕ). a ∷ t) (sym (eqb-true b mark e)))
-    on false e rest = ap (marked mark) (slice_split-cons_no (λ c. c == mark) b t e) ∙ longer (take_while (is_no mark) t) (behind_marks mark (after_while (is_no mark) t)) (slice_split-next mark t) rest
+    on false e rest = ap (marked mark) (slice_split-cons_no (λ c. c == mark) b t e) ∙ longer (take_while (is_no mark) t) (after_marks mark (after_while (is_no mark) t)) (slice_split-next mark t) rest
 
-pub marked-behind_marks : (mark : ℕ) (t : Text) → begins_piece mark t ≡ true → marked mark (behind_marks mark t) ≡ t
-marked-behind_marks mark [] begins = refl
-marked-behind_marks mark (b ∷ t) begins = marked-slice_split mark t ∙ ap (λ (a : ℕ). a ∷ t) (sym (eqb-true b mark begins))
+pub marked-after_marks : (mark : ℕ) (t : Text) → begins_piece mark t ≡ true → marked mark (after_marks mark t) ≡ t
+marked-after_marks mark [] begins = refl
+marked-after_marks mark (b ∷ t) begins = marked-slice_split mark t ∙ ap (λ (a : ℕ). a ∷ t) (sym (eqb-true b mark begins))
 
 stops-marked : (mark : ℕ) (parts : List Text) → stops (is_no mark) (marked mark parts) ≡ true
 stops-marked mark [] = refl
 stops-marked mark (part ∷ parts) = ap (λ (v : Bool). not (not v)) (eq-eqb mark mark refl)
 
--- parts without the mark are what stands behind each mark of what they make
-pub behind_marks-marked : (mark : ℕ) (parts : List Text) → list_all (list_all (is_no mark)) parts ≡ true → behind_marks mark (marked mark parts) ≡ parts
-behind_marks-marked mark [] all = refl
-behind_marks-marked mark (part ∷ parts) all =
+-- parts without the mark are what stands after each mark of what they make
+pub after_marks-marked : (mark : ℕ) (parts : List Text) → list_all (list_all (is_no mark)) parts ≡ true → after_marks mark (marked mark parts) ≡ parts
+after_marks-marked mark [] all = refl
+after_marks-marked mark (part ∷ parts) all =
     let here : Cut (is_no mark) (part ++ marked mark parts) part (marked mark parts) = record { whole = refl; run = first_true (list_all (is_no mark) part) (list_all (list_all (is_no mark)) parts) all; stop = stops-marked mark parts } in
-    behind_marks-next mark mark (part ++ marked mark parts)
-    ∙ ap (λ (front : Text). front ∷ behind_marks mark (after_while (is_no mark) (part ++ marked mark parts))) (take_while-cut (is_no mark) (part ++ marked mark parts) part (marked mark parts) here)
-    ∙ ap (λ (back : Text). part ∷ behind_marks mark back) (after_while-cut (is_no mark) (part ++ marked mark parts) part (marked mark parts) here)
-    ∙ ap (λ (others : List Text). part ∷ others) (behind_marks-marked mark parts (rest_true (list_all (is_no mark) part) (list_all (list_all (is_no mark)) parts) all))
+    after_marks-next mark mark (part ++ marked mark parts)
+    ∙ ap (λ (front : Text). front ∷ after_marks mark (after_while (is_no mark) (part ++ marked mark parts))) (take_while-cut (is_no mark) (part ++ marked mark parts) part (marked mark parts) here)
+    ∙ ap (λ (back : Text). part ∷ after_marks mark back) (after_while-cut (is_no mark) (part ++ marked mark parts) part (marked mark parts) here)
+    ∙ ap (λ (others : List Text). part ∷ others) (after_marks-marked mark parts (rest_true (list_all (is_no mark) part) (list_all (list_all (is_no mark)) parts) all))

@@ -1,20 +1,37 @@
--- Numbers in decimal digits.
-use Rattle.std.proofs.Common.{◌≡◌, ℕ, ◌+◌, ◌-◌, ◌*◌, ◌<◌, ◌≤◌, ◌==◌, Bool, true, false, nat_le, nat_lt, [], ◌∷◌, length, map, take, min, get_or, cond, ◌⊎◌, inl, inr, Ordering, refl, ap, sym, ◌∙◌, arith}
+-- Numbers in decimal digits: compared by their digits, and read.
+use Rattle.std.proofs.Common.{◌≡◌, ℕ, ◌+◌, ◌-◌, ◌*◌, ◌<◌, ◌≤◌, Bool, true, false, not, nat_le, [], ◌∷◌, length, map, take, min, get_or, inl, inr, refl, ap, sym, ◌∙◌, arith}
+use Rattle.std.specs.declared.cmp.Ordering.{Ordering}
+use Rattle.std.specs.declared.cmp.Ordering.TheVariants.{Equal, Less, Greater}
 use Rattle.std.specs.List.{list_all}
 use Rattle.std.specs.Int.Digits.{number_from_digits, number_from_digits_after}
-use Rattle.std.proofs.lemmas.Bool.{and_parts, cases_order, eq-eqb, eqb-false, eqb-true, le-ltb, leb-true, lt-ltb, ne_eqb}
-use Rattle.std.proofs.lemmas.Int.Digits.{number_after_ge, number_more}
+use Rattle.std.specs.Ordering.{nat_cmp, ordering_then}
+use Rattle.std.specs.Cmp.{nat_cmp_is}
 use Rattle.std.specs.Cmp.Lexicographic.{slice_cmp}
-use Rattle.std.specs.Ordering.{is_lt, nat_cmp}
-use Rattle.std.proofs.lemmas.Bool.Decides.{nat_tests}
-use Rattle.std.proofs.lemmas.Cmp.{same_from_slice_cmp}
+use Rattle.std.proofs.lemmas.Bool.{and_parts, cases_order, eqb-false, eqb-true, leb-true}
+use Rattle.std.proofs.lemmas.Int.Digits.{number_after_ge, number_more}
 use Rattle.std.proofs.lemmas.List.{get_or-map, length-map}
+use Rattle.eb_bytes.specs.Class.{is_digit, is_zero}
 use Rattle.eb_bytes.specs.Text.{Text}
-use Rattle.version_funcs.specs.Byte.{is_digit, after_while, is_zero}
-use Rattle.version_funcs.specs.Range.{digit, number}
+use Rattle.version_funcs.specs.Byte.{after_while}
+use Rattle.version_funcs.specs.Compared.{digits_order, stripped_order}
+use Rattle.version_funcs.specs.Number.{digit, number, number_order}
+use Rattle.version_funcs.proofs.Marks.{cut, stops}
 use Rattle.version_funcs.proofs.Runs.{after_while-goes_on, after_while-stops, list_all-after_while}
 
--- the number that digits write behind a number
+-- ---- the order of numbers
+
+cmp_less : (m n : ℕ) → m < n → nat_cmp m n ≡ Less
+cmp_less m n h = sym (nat_cmp_is m n Less h)
+
+cmp_equal : (m n : ℕ) → m ≡ n → nat_cmp m n ≡ Equal
+cmp_equal m n h = sym (nat_cmp_is m n Equal h)
+
+cmp_greater : (m n : ℕ) → n < m → nat_cmp m n ≡ Greater
+cmp_greater m n h = sym (nat_cmp_is m n Greater h)
+
+-- ---- digits
+
+-- the number that digits write after a number
 abbrev pub going_on : ℕ → Text → ℕ
 going_on n t = number_from_digits_after 10 n (map digit t)
 
@@ -25,63 +42,41 @@ record IsDigit (b : ℕ) : Type 0 where
 is_digit-bounds : (b : ℕ) → is_digit b ≡ true → IsDigit b
 is_digit-bounds b e = record { low = leb-true 48 b (and_parts (nat_le 48 b) (nat_le b 57) e).0; high = leb-true b 57 (and_parts (nat_le 48 b) (nat_le b 57) e).1 }
 
--- what stands behind a smaller number, and is no longer, writes a smaller number
-pub going_on-lt : (m n : ℕ) (xs ys : Text) → list_all is_digit xs ≡ true → m < n → length xs ≤ length ys → going_on m xs < going_on n ys
+-- what stands after a smaller number, and is no longer, writes a smaller number
+going_on-lt : (m n : ℕ) (xs ys : Text) → list_all is_digit xs ≡ true → m < n → length xs ≤ length ys → going_on m xs < going_on n ys
 going_on-lt m n [] ys all less short = let more = number_after_ge 10 n (map digit ys) (omega arith) in omega arith
 going_on-lt m n (x ∷ xs) [] all less short = absurd (omega arith)
 going_on-lt m n (x ∷ xs) (y ∷ ys) all less short =
     let here = is_digit-bounds x (and_parts (is_digit x) (list_all is_digit xs) all).0 in
     going_on-lt (m * 10 + digit x) (n * 10 + digit y) xs ys (and_parts (is_digit x) (list_all is_digit xs) all).1 (omega arith) (omega arith)
 
--- ---- the order of numbers
+-- ---- numbers of one length
 
--- whether a text comes before another, byte by byte
-abbrev pub comes_before : Text → Text → Bool
-comes_before [] [] = false
-comes_before [] (y ∷ ys) = true
-comes_before (x ∷ xs) [] = false
-comes_before (x ∷ xs) (y ∷ ys) = cond (x == y) (comes_before xs ys) (nat_lt x y)
-
--- digits behind one number, as many, are ordered as they are as bytes
-going_on-order : (n : ℕ) (xs ys : Text) → list_all is_digit xs ≡ true → list_all is_digit ys ≡ true → length xs ≡ length ys → comes_before xs ys ≡ nat_lt (going_on n xs) (going_on n ys)
-going_on-order n [] [] low high same = sym (le-ltb n n (omega arith))
+-- digits after one number, as many, are ordered as they are as bytes
+going_on-order : (n : ℕ) (xs ys : Text) → list_all is_digit xs ≡ true → list_all is_digit ys ≡ true → length xs ≡ length ys → slice_cmp nat_cmp xs ys ≡ nat_cmp (going_on n xs) (going_on n ys)
+going_on-order n [] [] low high same = sym (cmp_equal n n refl)
 going_on-order n [] (y ∷ ys) low high same = absurd (omega arith)
 going_on-order n (x ∷ xs) [] low high same = absurd (omega arith)
 going_on-order n (x ∷ xs) (y ∷ ys) low high same =
-    let rest = going_on-order (n * 10 + digit x) xs ys (and_parts (is_digit x) (list_all is_digit xs) low).1 (and_parts (is_digit y) (list_all is_digit ys) high).1 (omega arith) in
-    elim (cases_order x y) [ inl e ↦ on_same rest e | inr apart ↦ on_apart apart ]
-  where
-    x_is : IsDigit x
-    x_is = is_digit-bounds x (and_parts (is_digit x) (list_all is_digit xs) low).0
+    let x_is = is_digit-bounds x (and_parts (is_digit x) (list_all is_digit xs) low).0 in
+    let y_is = is_digit-bounds y (and_parts (is_digit y) (list_all is_digit ys) high).0 in
+    let xs_are : list_all is_digit xs ≡ true = (and_parts (is_digit x) (list_all is_digit xs) low).1 in
+    let ys_are : list_all is_digit ys ≡ true = (and_parts (is_digit y) (list_all is_digit ys) high).1 in
+    let first = λ (o : Ordering). ordering_then o (slice_cmp nat_cmp xs ys) in
+    elim (cases_order x y) [
+      | inl equal ↦
+          (ap first (cmp_equal x y equal)
+          ∙ going_on-order (n * 10 + digit x) xs ys xs_are ys_are (omega arith)
+          ∙ ap (λ (b : ℕ). nat_cmp (going_on (n * 10 + digit x) xs) (going_on (n * 10 + digit b) ys)) equal)
+      | inr (inl less) ↦
+          (ap first (cmp_less x y less)
+          ∙ sym (cmp_less _ _ (going_on-lt (n * 10 + digit x) (n * 10 + digit y) xs ys xs_are (let a : 48 ≤ x = x_is.low in omega arith) (omega arith))))
+      | inr (inr greater) ↦
+          (ap first (cmp_greater x y greater)
+          ∙ sym (cmp_greater _ _ (going_on-lt (n * 10 + digit y) (n * 10 + digit x) ys xs ys_are (let a : 48 ≤ y = y_is.low in omega arith) (omega arith))))
+    ]
 
-    y_is : IsDigit y
-    y_is = is_digit-bounds y (and_parts (is_digit y) (list_all is_digit ys) high).0
-
-    xs_are : list_all is_digit xs ≡ true
-    xs_are = (and_parts (is_digit x) (list_all is_digit xs) low).1
-
-    ys_are : list_all is_digit ys ≡ true
-    ys_are = (and_parts (is_digit y) (list_all is_digit ys) high).1
-
-    on_same : comes_before xs ys ≡ nat_lt (going_on (n * 10 + digit x) xs) (going_on (n * 10 + digit x) ys) → x ≡ y → comes_before (x ∷ xs) (y ∷ ys) ≡ nat_lt (going_on n (x ∷ xs)) (going_on n (y ∷ ys))
-    on_same rest e =
-        ap (λ (v : Bool). cond v (comes_before xs ys) (nat_lt x y)) (eq-eqb x y e)
-        ∙ rest
-        ∙ ap (λ (b : ℕ). nat_lt (going_on (n * 10 + digit x) xs) (going_on (n * 10 + digit b) ys)) e
-
-    on_apart : (x < y) ⊎ (y < x) → comes_before (x ∷ xs) (y ∷ ys) ≡ nat_lt (going_on n (x ∷ xs)) (going_on n (y ∷ ys))
-    on_apart (inl less) =
-        let a : 48 ≤ x = x_is.low in
-        let before : going_on (n * 10 + digit x) xs < going_on (n * 10 + digit y) ys = going_on-lt (n * 10 + digit x) (n * 10 + digit y) xs ys xs_are (omega arith) (omega arith) in
-        ap (λ (v : Bool). cond v (comes_before xs ys) (nat_lt x y)) (ne_eqb x y (λ e. omega arith))
-        ∙ lt-ltb x y less
-        ∙ sym (lt-ltb (going_on (n * 10 + digit x) xs) (going_on (n * 10 + digit y) ys) before)
-    on_apart (inr more) =
-        let a : 48 ≤ y = y_is.low in
-        let behind : going_on (n * 10 + digit y) ys < going_on (n * 10 + digit x) xs = going_on-lt (n * 10 + digit y) (n * 10 + digit x) ys xs ys_are (omega arith) (omega arith) in
-        ap (λ (v : Bool). cond v (comes_before xs ys) (nat_lt x y)) (ne_eqb x y (λ e. omega arith))
-        ∙ le-ltb x y (omega arith)
-        ∙ sym (le-ltb (going_on (n * 10 + digit x) xs) (going_on (n * 10 + digit y) ys) (omega arith))
+-- ---- numbers of different lengths
 
 -- zeros at the front add nothing
 number-significant : (t : Text) → number (after_while is_zero t) ≡ number t
@@ -95,48 +90,33 @@ number-significant (b ∷ t) = on (is_zero b) refl (number-significant t)
         ap number (after_while-goes_on is_zero b t e) ∙ rest ∙ ap (λ (n : ℕ). going_on n t) (sym none)
     on false e rest = ap number (after_while-stops is_zero b t e)
 
--- the first of the digits behind the zeros is no zero
-first-significant : (t : Text) (b : ℕ) (u : Text) → after_while is_zero t ≡ b ∷ u → is_zero b ≡ false
-first-significant [] b u e = absurd (cc)
-first-significant (d ∷ t) b u e = on (is_zero d) refl (first-significant t b u)
-  where
-    on : (v : Bool) → is_zero d ≡ v → (after_while is_zero t ≡ b ∷ u → is_zero b ≡ false) → is_zero b ≡ false
-    on true f rest = rest (sym (after_while-goes_on is_zero d t f) ∙ e)
-    on false f rest = let same : d ∷ t ≡ b ∷ u = sym (after_while-stops is_zero d t f) ∙ e in let d_is : d ≡ b = cc in ap is_zero (sym d_is) ∙ f
+not_true : (v : Bool) → not v ≡ true → v ≡ false
+not_true true h = absurd (cc)
+not_true false h = refl
 
--- fewer digits write a smaller number
-shorter : (xs ys : Text) → list_all is_digit xs ≡ true → list_all is_digit ys ≡ true → ((b : ℕ) (u : Text) → ys ≡ b ∷ u → is_zero b ≡ false) → length xs < length ys → number xs < number ys
-shorter xs [] low high first less = absurd (omega arith)
-shorter xs (y ∷ ys) low high first less =
+-- fewer digits write a smaller number, where the other one's first digit is no zero
+shorter : (xs ys : Text) → list_all is_digit xs ≡ true → list_all is_digit ys ≡ true → stops is_zero ys ≡ true → length xs < length ys → number xs < number ys
+shorter xs [] low high stop less = absurd (omega arith)
+shorter xs (y ∷ ys) low high stop less =
     let y_is = is_digit-bounds y (and_parts (is_digit y) (list_all is_digit ys) high).0 in
-    let some : y ≡ 48 → ⊥ = eqb-false y 48 (first y ys refl) in
+    let some : y ≡ 48 → ⊥ = eqb-false y 48 (not_true (is_zero y) stop) in
     going_on-lt 0 (0 + digit y) xs ys low (omega arith) (omega arith)
 
--- two numbers by their significant digits
-pub below-shorter : (low high l h : Text) → list_all is_digit low ≡ true → list_all is_digit high ≡ true → l ≡ after_while is_zero low → h ≡ after_while is_zero high → length l < length h → nat_lt (number low) (number high) ≡ true
-below-shorter low high l h low_is high_is l_is h_is less =
-    let lesser = shorter l h (ap (list_all is_digit) l_is ∙ list_all-after_while is_digit is_zero low low_is) (ap (list_all is_digit) h_is ∙ list_all-after_while is_digit is_zero high high_is) (λ b u e. first-significant high b u (sym h_is ∙ e)) less in
-    let low_same : number l ≡ number low = ap number l_is ∙ number-significant low in
-    let high_same : number h ≡ number high = ap number h_is ∙ number-significant high in
-    lt-ltb (number low) (number high) (omega arith)
+-- ---- all numbers
 
-pub below-longer : (low high l h : Text) → list_all is_digit low ≡ true → list_all is_digit high ≡ true → l ≡ after_while is_zero low → h ≡ after_while is_zero high → length h < length l → nat_lt (number low) (number high) ≡ false
-below-longer low high l h low_is high_is l_is h_is less =
-    let greater = shorter h l (ap (list_all is_digit) h_is ∙ list_all-after_while is_digit is_zero high high_is) (ap (list_all is_digit) l_is ∙ list_all-after_while is_digit is_zero low low_is) (λ b u e. first-significant low b u (sym l_is ∙ e)) less in
-    let low_same : number l ≡ number low = ap number l_is ∙ number-significant low in
-    let high_same : number h ≡ number high = ap number h_is ∙ number-significant high in
-    le-ltb (number low) (number high) (omega arith)
+stripped_order-number : (a b : Text) → list_all is_digit a ≡ true → list_all is_digit b ≡ true → stops is_zero a ≡ true → stops is_zero b ≡ true → stripped_order a b ≡ number_order a b
+stripped_order-number a b digits_a digits_b stop_a stop_b = elim (cases_order (length a) (length b)) [
+  | inl equal ↦ ap (λ (o : Ordering). ordering_then o (slice_cmp nat_cmp a b)) (cmp_equal _ _ equal) ∙ going_on-order 0 a b digits_a digits_b equal
+  | inr (inl less) ↦ ap (λ (o : Ordering). ordering_then o (slice_cmp nat_cmp a b)) (cmp_less _ _ less) ∙ sym (cmp_less _ _ (shorter a b digits_a digits_b stop_b less))
+  | inr (inr greater) ↦ ap (λ (o : Ordering). ordering_then o (slice_cmp nat_cmp a b)) (cmp_greater _ _ greater) ∙ sym (cmp_greater _ _ (shorter b a digits_b digits_a stop_a greater))
+]
 
-pub below-same : (low high l h : Text) → list_all is_digit low ≡ true → list_all is_digit high ≡ true → l ≡ after_while is_zero low → h ≡ after_while is_zero high → length l ≡ length h → comes_before l h ≡ nat_lt (number low) (number high)
-below-same low high l h low_is high_is l_is h_is same =
-    let low_same : number l ≡ number low = ap number l_is ∙ number-significant low in
-    let high_same : number h ≡ number high = ap number h_is ∙ number-significant high in
-    going_on-order 0 l h (ap (list_all is_digit) l_is ∙ list_all-after_while is_digit is_zero low low_is) (ap (list_all is_digit) h_is ∙ list_all-after_while is_digit is_zero high high_is) same
-    ∙ ap (λ (n : ℕ). nat_lt n (number h)) low_same
-    ∙ ap (nat_lt (number low)) high_same
-
-pub is_before : (xs ys : Text) (o : Ordering) → o ≡ slice_cmp nat_cmp xs ys → is_lt o ≡ comes_before xs ys
-is_before = same_from_slice_cmp nat_cmp is_lt comes_before refl (λ _ _. refl) (λ _ _. refl) (λ x y xs ys o h. grind (arith, nat_tests))
+-- digits compare as their numbers do
+pub digits_order-number : (a b : Text) → list_all is_digit a ≡ true → list_all is_digit b ≡ true → digits_order a b ≡ number_order a b
+digits_order-number a b digits_a digits_b =
+    stripped_order-number (after_while is_zero a) (after_while is_zero b) (list_all-after_while is_digit is_zero a digits_a) (list_all-after_while is_digit is_zero b digits_b) (cut is_zero a).stop (cut is_zero b).stop
+    ∙ ap (λ (n : ℕ). nat_cmp n (number (after_while is_zero b))) (number-significant a)
+    ∙ ap (nat_cmp (number a)) (number-significant b)
 
 -- ---- reading
 

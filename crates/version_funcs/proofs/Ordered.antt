@@ -7,15 +7,16 @@ use Rattle.std.specs.Option.{option_cmp}
 use Rattle.std.specs.Ordering.{nat_cmp, ordering_then, ordering_reverse}
 use Rattle.std.specs.Cmp.Lexicographic.{slice_cmp}
 use Rattle.eb_bytes.specs.Text.{Text, has_bytes}
-use Rattle.version_funcs.specs.Byte.{is_digit}
+use Rattle.eb_bytes.specs.Class.{is_digit}
 use Rattle.version_funcs.specs.Version.{Suffix, Version, IsWellFormed, is_number, is_none_or, is_suffix, kind_rank, spelled_suffix, spelled_revision}
-use Rattle.version_funcs.specs.Walk.{behind_marks, suffix_of, first_text, later_text, letter_of, behind_components, suffixes_text, revision_text}
-use Rattle.version_funcs.specs.Order.{begins_with_zero, without_last_zeros, number_order, component_order, suffix_order, suffixes_order, longer_order, revision_digits, version_order}
+use Rattle.version_funcs.specs.Walk.{after_marks, suffix_of, first_text, later_text, letter_of, after_components, suffixes_text, revision_text}
+use Rattle.version_funcs.specs.Number.{number_order}
+use Rattle.version_funcs.specs.Order.{begins_with_zero, without_last_zeros, component_order, suffix_order, suffixes_order, longer_order, revision_digits, version_order}
 use Rattle.version_funcs.specs.Compared.{digits_order, component_text_order, read_suffix_order, read_longer_order, suffix_text_order, suffix_texts_order, longer_text_order}
 use Rattle.version_funcs.proofs.Marks.{first_true, rest_true}
-use Rattle.version_funcs.proofs.Value.{digits_order-value}
+use Rattle.version_funcs.proofs.Numbers.{digits_order-number}
 use Rattle.version_funcs.proofs.Spelled.{PartsAre}
-use Rattle.version_funcs.proofs.Reading.{suffix_of-spelled, components-behind_marks, suffixes-behind_marks}
+use Rattle.version_funcs.proofs.Reading.{suffix_of-spelled, components-after_marks, suffixes-after_marks}
 
 -- ---- components
 
@@ -23,7 +24,7 @@ digits_of : (t : Text) → is_number t ≡ true → list_all is_digit t ≡ true
 digits_of t h = rest_true (has_bytes t) (list_all is_digit t) h
 
 component_text_order-value : (a b : Text) → is_number a ≡ true → is_number b ≡ true → component_text_order a b ≡ component_order a b
-component_text_order-value a b number_a number_b = ap (λ (o : Ordering). cond (begins_with_zero a || begins_with_zero b) (slice_cmp nat_cmp (without_last_zeros a) (without_last_zeros b)) o) (digits_order-value a b (digits_of a number_a) (digits_of b number_b))
+component_text_order-value a b number_a number_b = ap (λ (o : Ordering). cond (begins_with_zero a || begins_with_zero b) (slice_cmp nat_cmp (without_last_zeros a) (without_last_zeros b)) o) (digits_order-number a b (digits_of a number_a) (digits_of b number_b))
 
 components_order-value : (xs ys : List Text) → list_all is_number xs ≡ true → list_all is_number ys ≡ true → slice_cmp component_text_order xs ys ≡ slice_cmp component_order xs ys
 components_order-value [] [] all_x all_y = refl
@@ -39,7 +40,7 @@ suffix_text_order-value : (s r : Suffix) → is_suffix s ≡ true → is_suffix 
 suffix_text_order-value s r digits_s digits_r =
     ap (λ (o : Option Suffix). read_suffix_order o (suffix_of (spelled_suffix r))) (suffix_of-spelled s digits_s)
     ∙ ap (read_suffix_order (Some s)) (suffix_of-spelled r digits_r)
-    ∙ ap (ordering_then (nat_cmp (kind_rank s.kind) (kind_rank r.kind))) (digits_order-value s.number r.number digits_s digits_r)
+    ∙ ap (ordering_then (nat_cmp (kind_rank s.kind) (kind_rank r.kind))) (digits_order-number s.number r.number digits_s digits_r)
 
 longer_text_order-value : (s : Suffix) → is_suffix s ≡ true → longer_text_order (spelled_suffix s) ≡ longer_order s.kind
 longer_text_order-value s digits = ap read_longer_order (suffix_of-spelled s digits)
@@ -79,9 +80,9 @@ abbrev pub parts_order : Text → Text → Ordering
 parts_order s t =
     ordering_then (ordering_then (ordering_then (ordering_then
     (digits_order (first_text s) (first_text t))
-    (slice_cmp component_text_order (behind_marks 46 (later_text s)) (behind_marks 46 (later_text t))))
-    (option_cmp nat_cmp (letter_of (behind_components s)) (letter_of (behind_components t))))
-    (suffix_texts_order (behind_marks 95 (suffixes_text s)) (behind_marks 95 (suffixes_text t))))
+    (slice_cmp component_text_order (after_marks 46 (later_text s)) (after_marks 46 (later_text t))))
+    (option_cmp nat_cmp (letter_of (after_components s)) (letter_of (after_components t))))
+    (suffix_texts_order (after_marks 95 (suffixes_text s)) (after_marks 95 (suffixes_text t))))
     (digits_order (drop 2 (revision_text s)) (drop 2 (revision_text t)))
 
 both : {A B C : Type 0} (f : A → B → C) {a c : A} {b d : B} → a ≡ c → b ≡ d → f a b ≡ f c d
@@ -89,16 +90,16 @@ both f {c = c} {b = b} p q = ap (λ x. f x b) p ∙ ap (f c) q
 
 pub parts_order-value : (s t : Text) (v w : Version) → IsWellFormed v → IsWellFormed w → PartsAre s v → PartsAre t w → parts_order s t ≡ version_order v w
 parts_order-value s t v w well_v well_w parts_s parts_t =
-    let first : digits_order (first_text s) (first_text t) ≡ number_order v.first w.first = both digits_order parts_s.first parts_t.first ∙ digits_order-value v.first w.first (digits_of v.first well_v.first_is) (digits_of w.first well_w.first_is) in
-    let later : slice_cmp component_text_order (behind_marks 46 (later_text s)) (behind_marks 46 (later_text t)) ≡ slice_cmp component_order v.later w.later =
-    both (slice_cmp component_text_order) (ap (behind_marks 46) parts_s.later ∙ components-behind_marks v.later well_v.later_are) (ap (behind_marks 46) parts_t.later ∙ components-behind_marks w.later well_w.later_are)
+    let first : digits_order (first_text s) (first_text t) ≡ number_order v.first w.first = both digits_order parts_s.first parts_t.first ∙ digits_order-number v.first w.first (digits_of v.first well_v.first_is) (digits_of w.first well_w.first_is) in
+    let later : slice_cmp component_text_order (after_marks 46 (later_text s)) (after_marks 46 (later_text t)) ≡ slice_cmp component_order v.later w.later =
+    both (slice_cmp component_text_order) (ap (after_marks 46) parts_s.later ∙ components-after_marks v.later well_v.later_are) (ap (after_marks 46) parts_t.later ∙ components-after_marks w.later well_w.later_are)
     ∙ components_order-value v.later w.later well_v.later_are well_w.later_are in
-    let letter : option_cmp nat_cmp (letter_of (behind_components s)) (letter_of (behind_components t)) ≡ option_cmp nat_cmp v.letter w.letter = both (option_cmp nat_cmp) parts_s.letter parts_t.letter in
-    let suffixes : suffix_texts_order (behind_marks 95 (suffixes_text s)) (behind_marks 95 (suffixes_text t)) ≡ suffixes_order v.suffixes w.suffixes =
-    both suffix_texts_order (ap (behind_marks 95) parts_s.suffixes ∙ suffixes-behind_marks v.suffixes well_v.suffixes_are) (ap (behind_marks 95) parts_t.suffixes ∙ suffixes-behind_marks w.suffixes well_w.suffixes_are)
+    let letter : option_cmp nat_cmp (letter_of (after_components s)) (letter_of (after_components t)) ≡ option_cmp nat_cmp v.letter w.letter = both (option_cmp nat_cmp) parts_s.letter parts_t.letter in
+    let suffixes : suffix_texts_order (after_marks 95 (suffixes_text s)) (after_marks 95 (suffixes_text t)) ≡ suffixes_order v.suffixes w.suffixes =
+    both suffix_texts_order (ap (after_marks 95) parts_s.suffixes ∙ suffixes-after_marks v.suffixes well_v.suffixes_are) (ap (after_marks 95) parts_t.suffixes ∙ suffixes-after_marks w.suffixes well_w.suffixes_are)
     ∙ suffixes_order-value v.suffixes w.suffixes well_v.suffixes_are well_w.suffixes_are in
     let revision : digits_order (drop 2 (revision_text s)) (drop 2 (revision_text t)) ≡ number_order (revision_digits v.revision) (revision_digits w.revision) =
     both digits_order (ap (drop 2) parts_s.revision ∙ drop-revision v.revision) (ap (drop 2) parts_t.revision ∙ drop-revision w.revision)
-    ∙ digits_order-value (revision_digits v.revision) (revision_digits w.revision) (revision_is_digits v.revision well_v.revision_is) (revision_is_digits w.revision well_w.revision_is) in
+    ∙ digits_order-number (revision_digits v.revision) (revision_digits w.revision) (revision_is_digits v.revision well_v.revision_is) (revision_is_digits w.revision well_w.revision_is) in
     both ordering_then (both ordering_then (both ordering_then (both ordering_then first later) letter) suffixes) revision
     ∙ then_chain (number_order v.first w.first) (slice_cmp component_order v.later w.later) (option_cmp nat_cmp v.letter w.letter) (suffixes_order v.suffixes w.suffixes) (number_order (revision_digits v.revision) (revision_digits w.revision))

@@ -9,12 +9,13 @@ use Rattle.std.proofs.lemmas.Slice.Eq.{bytes_eq-Decides}
 use Rattle.eb_bytes.specs.Text.{Text}
 use Rattle.version_funcs.specs.declared.kind.SuffixKind.{SuffixKind}
 use Rattle.version_funcs.specs.declared.kind.SuffixKind.TheVariants.{Alpha, Beta, Pre, Candidate, Patch}
-use Rattle.version_funcs.specs.Byte.{is_digit, is_small, after_while, is_digit_or_dot, is_no}
+use Rattle.eb_bytes.specs.Class.{is_digit, is_lower}
+use Rattle.version_funcs.specs.Byte.{after_while, is_digit_or_dot, is_no}
 use Rattle.version_funcs.specs.Version.{Suffix, Version, IsWellFormed, IsVersionText, is_number, is_none_or, is_suffix, kind_name, marked, spelled_letter, spelled_suffix, spelled_revision, spelling}
-use Rattle.version_funcs.specs.Walk.{letter_of, behind_letter, behind_components, first_text, later_text, suffixes_text, revision_text, behind_marks, begins_piece, is_revision, kind_named, with_number, suffix_of, is_suffix_text, is_version_text}
+use Rattle.version_funcs.specs.Walk.{letter_of, after_letter, after_components, first_text, later_text, suffixes_text, revision_text, after_marks, begins_piece, is_revision, kind_named, with_number, suffix_of, is_suffix_text, is_version_text}
 use Rattle.version_funcs.proofs.Runs.{take_while-goes_on, take_while-stops}
-use Rattle.version_funcs.proofs.Marks.{Cut, stops, cut, take_while-cut, after_while-cut, first_true, rest_true, both_true, marked-behind_marks, behind_marks-marked}
-use Rattle.version_funcs.proofs.Spelled.{PartsAre, parts_are, components_are, suffixes_are, small_is_no, digit_is_no, digit_no_small}
+use Rattle.version_funcs.proofs.Marks.{Cut, stops, cut, take_while-cut, after_while-cut, first_true, rest_true, both_true, marked-after_marks, after_marks-marked}
+use Rattle.version_funcs.proofs.Spelled.{PartsAre, parts_are, components_are, suffixes_are, lower_is_no, digit_is_no, digit_no_lower}
 
 -- ---- suffixes
 
@@ -25,23 +26,23 @@ kind_named-name Pre = refl
 kind_named-name Candidate = refl
 kind_named-name Patch = refl
 
-name_is_small : (kind : SuffixKind) → list_all is_small (kind_name kind) ≡ true
-name_is_small Alpha = refl
-name_is_small Beta = refl
-name_is_small Pre = refl
-name_is_small Candidate = refl
-name_is_small Patch = refl
+name_is_lower : (kind : SuffixKind) → list_all is_lower (kind_name kind) ≡ true
+name_is_lower Alpha = refl
+name_is_lower Beta = refl
+name_is_lower Pre = refl
+name_is_lower Candidate = refl
+name_is_lower Patch = refl
 
-stops-number : (number : Text) → list_all is_digit number ≡ true → stops is_small number ≡ true
+stops-number : (number : Text) → list_all is_digit number ≡ true → stops is_lower number ≡ true
 stops-number [] all = refl
-stops-number (b ∷ number) all = ap not (digit_no_small b (first_true (is_digit b) (list_all is_digit number) all))
+stops-number (b ∷ number) all = ap not (digit_no_lower b (first_true (is_digit b) (list_all is_digit number) all))
 
 -- a suffix is read as it is spelled
 pub suffix_of-spelled : (s : Suffix) → is_suffix s ≡ true → suffix_of (spelled_suffix s) ≡ Some s
 suffix_of-spelled s digits =
-    let here : Cut is_small (spelled_suffix s) (kind_name s.kind) s.number = record { whole = refl; run = name_is_small s.kind; stop = stops-number s.number digits } in
-    ap (λ (name : Text). with_number (kind_named name) (after_while is_small (spelled_suffix s))) (take_while-cut is_small (spelled_suffix s) (kind_name s.kind) s.number here)
-    ∙ ap (λ (number : Text). with_number (kind_named (kind_name s.kind)) number) (after_while-cut is_small (spelled_suffix s) (kind_name s.kind) s.number here)
+    let here : Cut is_lower (spelled_suffix s) (kind_name s.kind) s.number = record { whole = refl; run = name_is_lower s.kind; stop = stops-number s.number digits } in
+    ap (λ (name : Text). with_number (kind_named name) (after_while is_lower (spelled_suffix s))) (take_while-cut is_lower (spelled_suffix s) (kind_name s.kind) s.number here)
+    ∙ ap (λ (number : Text). with_number (kind_named (kind_name s.kind)) number) (after_while-cut is_lower (spelled_suffix s) (kind_name s.kind) s.number here)
     ∙ ap (λ (kind : Option SuffixKind). with_number kind s.number) (kind_named-name s.kind)
     ∙ ap (λ (v : Bool). cond v (Some s) None) digits
 
@@ -85,8 +86,8 @@ with_number-is name number (Some kind) s e h =
 
 suffix_of-is : (piece : Text) (s : Suffix) → suffix_of piece ≡ Some s → SpellsSuffix piece s
 suffix_of-is piece s h =
-    let found = with_number-is (take_while is_small piece) (after_while is_small piece) (kind_named (take_while is_small piece)) s refl h in
-    record { spelled = found.spelled ∙ sym (cut is_small piece).whole; digits = found.digits }
+    let found = with_number-is (take_while is_lower piece) (after_while is_lower piece) (kind_named (take_while is_lower piece)) s refl h in
+    record { spelled = found.spelled ∙ sym (cut is_lower piece).whole; digits = found.digits }
 
 -- the suffixes that the pieces spell
 abbrev with_suffix : Option Suffix → List Suffix → List Suffix
@@ -123,11 +124,11 @@ suffix_texts_are (s ∷ ss) all =
     (ap is_some (suffix_of-spelled s (first_true (is_suffix s) (list_all is_suffix ss) all)))
     (suffix_texts_are ss (rest_true (is_suffix s) (list_all is_suffix ss) all))
 
-pub components-behind_marks : (parts : List Text) → list_all is_number parts ≡ true → behind_marks 46 (marked 46 parts) ≡ parts
-components-behind_marks parts all = behind_marks-marked 46 parts (components_are (is_no 46) (digit_is_no 46 refl) parts all)
+pub components-after_marks : (parts : List Text) → list_all is_number parts ≡ true → after_marks 46 (marked 46 parts) ≡ parts
+components-after_marks parts all = after_marks-marked 46 parts (components_are (is_no 46) (digit_is_no 46 refl) parts all)
 
-pub suffixes-behind_marks : (ss : List Suffix) → list_all is_suffix ss ≡ true → behind_marks 95 (marked 95 (map spelled_suffix ss)) ≡ map spelled_suffix ss
-suffixes-behind_marks ss all = behind_marks-marked 95 (map spelled_suffix ss) (suffixes_are (is_no 95) (small_is_no 95 refl) (digit_is_no 95 refl) ss all)
+pub suffixes-after_marks : (ss : List Suffix) → list_all is_suffix ss ≡ true → after_marks 95 (marked 95 (map spelled_suffix ss)) ≡ map spelled_suffix ss
+suffixes-after_marks ss all = after_marks-marked 95 (map spelled_suffix ss) (suffixes_are (is_no 95) (lower_is_no 95 refl) (digit_is_no 95 refl) ss all)
 
 begins_piece-marked : (parts : List Text) → begins_piece 95 (marked 95 parts) ≡ true
 begins_piece-marked [] = refl
@@ -140,9 +141,9 @@ is_revision-spelled (Some digits) h = h
 passes_tests : (t : Text) (v : Version) → IsWellFormed v → PartsAre t v → is_version_text t ≡ true
 passes_tests t v well parts =
     both_true _ _ (ap is_number parts.first ∙ well.first_is)
-    (both_true _ _ (ap (λ (u : Text). list_all is_number (behind_marks 46 u)) parts.later ∙ ap (list_all is_number) (components-behind_marks v.later well.later_are) ∙ well.later_are)
+    (both_true _ _ (ap (λ (u : Text). list_all is_number (after_marks 46 u)) parts.later ∙ ap (list_all is_number) (components-after_marks v.later well.later_are) ∙ well.later_are)
     (both_true _ _ (ap (begins_piece 95) parts.suffixes ∙ begins_piece-marked (map spelled_suffix v.suffixes))
-    (both_true _ _ (ap (λ (u : Text). list_all is_suffix_text (behind_marks 95 u)) parts.suffixes ∙ ap (list_all is_suffix_text) (suffixes-behind_marks v.suffixes well.suffixes_are) ∙ suffix_texts_are v.suffixes well.suffixes_are)
+    (both_true _ _ (ap (λ (u : Text). list_all is_suffix_text (after_marks 95 u)) parts.suffixes ∙ ap (list_all is_suffix_text) (suffixes-after_marks v.suffixes well.suffixes_are) ∙ suffix_texts_are v.suffixes well.suffixes_are)
     (ap is_revision parts.revision ∙ is_revision-spelled v.revision well.revision_is))))
 
 pub version_passes : (t : Text) → IsVersionText t → is_version_text t ≡ true
@@ -151,23 +152,23 @@ version_passes t is =
 
 -- ---- from the tests to a version
 
-letter-whole : (t : Text) → t ≡ spelled_letter (letter_of t) ++ behind_letter t
+letter-whole : (t : Text) → t ≡ spelled_letter (letter_of t) ++ after_letter t
 letter-whole [] = refl
-letter-whole (b ∷ t) = on (is_small b)
+letter-whole (b ∷ t) = on (is_lower b)
   where
     on : (v : Bool) → b ∷ t ≡ spelled_letter (cond v (Some b) None) ++ cond v t (b ∷ t)
     on true = refl
     on false = refl
 
-letter_is_small : (t : Text) → is_none_or is_small (letter_of t) ≡ true
+letter_is_small : (t : Text) → is_none_or is_lower (letter_of t) ≡ true
 letter_is_small [] = refl
-letter_is_small (b ∷ t) = on (is_small b) refl
+letter_is_small (b ∷ t) = on (is_lower b) refl
   where
-    on : (v : Bool) → is_small b ≡ v → is_none_or is_small (cond v (Some b) None) ≡ true
+    on : (v : Bool) → is_lower b ≡ v → is_none_or is_lower (cond v (Some b) None) ≡ true
     on true e = e
     on false e = refl
 
--- what stands behind the first component begins with a dot where a run of digits and dots follows
+-- what stands after the first component begins with a dot where a run of digits and dots follows
 begins_piece-later : (t : Text) → stops is_digit t ≡ true → begins_piece 46 (take_while is_digit_or_dot t) ≡ true
 begins_piece-later [] stop = refl
 begins_piece-later (b ∷ t) stop = on (is_digit_or_dot b) refl
@@ -205,56 +206,56 @@ spells_revision (b ∷ c ∷ digits) h =
 abbrev version_of : Text → Version
 version_of t = record {
   first = first_text t;
-  later = behind_marks 46 (later_text t);
-  letter = letter_of (behind_components t);
-  suffixes = suffixes_of (behind_marks 95 (suffixes_text t));
+  later = after_marks 46 (later_text t);
+  letter = letter_of (after_components t);
+  suffixes = suffixes_of (after_marks 95 (suffixes_text t));
   revision = revision_of (revision_text t);
 }
 
 -- what the tests say
 record Passes (t : Text) : Type 0 where
   first : is_number (first_text t) ≡ true
-  later : list_all is_number (behind_marks 46 (later_text t)) ≡ true
+  later : list_all is_number (after_marks 46 (later_text t)) ≡ true
   begins : begins_piece 95 (suffixes_text t) ≡ true
-  suffixes : list_all is_suffix_text (behind_marks 95 (suffixes_text t)) ≡ true
+  suffixes : list_all is_suffix_text (after_marks 95 (suffixes_text t)) ≡ true
   revision : is_revision (revision_text t) ≡ true
 
 passes : (t : Text) → is_version_text t ≡ true → Passes t
 passes t h =
     let second = rest_true (is_number (first_text t)) _ h in
-    let third = rest_true (list_all is_number (behind_marks 46 (later_text t))) _ second in
+    let third = rest_true (list_all is_number (after_marks 46 (later_text t))) _ second in
     let fourth = rest_true (begins_piece 95 (suffixes_text t)) _ third in
     record {
       first = first_true (is_number (first_text t)) _ h;
-      later = first_true (list_all is_number (behind_marks 46 (later_text t))) _ second;
+      later = first_true (list_all is_number (after_marks 46 (later_text t))) _ second;
       begins = first_true (begins_piece 95 (suffixes_text t)) _ third;
-      suffixes = first_true (list_all is_suffix_text (behind_marks 95 (suffixes_text t))) _ fourth;
-      revision = rest_true (list_all is_suffix_text (behind_marks 95 (suffixes_text t))) _ fourth;
+      suffixes = first_true (list_all is_suffix_text (after_marks 95 (suffixes_text t))) _ fourth;
+      revision = rest_true (list_all is_suffix_text (after_marks 95 (suffixes_text t))) _ fourth;
     }
 
 spelled_as_read : (t : Text) → Passes t → t ≡ spelling (version_of t)
 spelled_as_read t pass =
-    let behind_first = after_while is_digit t in
-    let suffixes : map spelled_suffix (suffixes_of (behind_marks 95 (suffixes_text t))) ≡ behind_marks 95 (suffixes_text t) = (spells_suffixes (behind_marks 95 (suffixes_text t)) pass.suffixes).spelled in
-    let last : suffixes_text t ++ revision_text t ≡ marked 95 (map spelled_suffix (suffixes_of (behind_marks 95 (suffixes_text t)))) ++ spelled_revision (revision_of (revision_text t)) =
-    ap (λ (u : Text). u ++ revision_text t) (sym (ap (marked 95) suffixes ∙ marked-behind_marks 95 (suffixes_text t) pass.begins))
-    ∙ ap (λ (u : Text). marked 95 (map spelled_suffix (suffixes_of (behind_marks 95 (suffixes_text t)))) ++ u) (sym (spells_revision (revision_text t) pass.revision).spelled) in
-    let later : later_text t ≡ marked 46 (behind_marks 46 (later_text t)) = sym (marked-behind_marks 46 (later_text t) (begins_piece-later (after_while is_digit t) (cut is_digit t).stop)) in
+    let after_first = after_while is_digit t in
+    let suffixes : map spelled_suffix (suffixes_of (after_marks 95 (suffixes_text t))) ≡ after_marks 95 (suffixes_text t) = (spells_suffixes (after_marks 95 (suffixes_text t)) pass.suffixes).spelled in
+    let last : suffixes_text t ++ revision_text t ≡ marked 95 (map spelled_suffix (suffixes_of (after_marks 95 (suffixes_text t)))) ++ spelled_revision (revision_of (revision_text t)) =
+    ap (λ (u : Text). u ++ revision_text t) (sym (ap (marked 95) suffixes ∙ marked-after_marks 95 (suffixes_text t) pass.begins))
+    ∙ ap (λ (u : Text). marked 95 (map spelled_suffix (suffixes_of (after_marks 95 (suffixes_text t)))) ++ u) (sym (spells_revision (revision_text t) pass.revision).spelled) in
+    let later : later_text t ≡ marked 46 (after_marks 46 (later_text t)) = sym (marked-after_marks 46 (later_text t) (begins_piece-later (after_while is_digit t) (cut is_digit t).stop)) in
     (cut is_digit t).whole
     ∙ ap (λ (u : Text). first_text t ++ u)
     ((cut is_digit_or_dot (after_while is_digit t)).whole
-    ∙ ap (λ (u : Text). u ++ behind_components t) later
-    ∙ ap (λ (u : Text). marked 46 (behind_marks 46 (later_text t)) ++ u)
-    (letter-whole (behind_components t)
-    ∙ ap (λ (u : Text). spelled_letter (letter_of (behind_components t)) ++ u)
-    ((cut (is_no 45) (behind_letter (behind_components t))).whole ∙ last)))
+    ∙ ap (λ (u : Text). u ++ after_components t) later
+    ∙ ap (λ (u : Text). marked 46 (after_marks 46 (later_text t)) ++ u)
+    (letter-whole (after_components t)
+    ∙ ap (λ (u : Text). spelled_letter (letter_of (after_components t)) ++ u)
+    ((cut (is_no 45) (after_letter (after_components t))).whole ∙ last)))
 
 well_formed_as_read : (t : Text) → Passes t → IsWellFormed (version_of t)
 well_formed_as_read t pass = record {
   first_is = pass.first;
   later_are = pass.later;
-  letter_is = letter_is_small (behind_components t);
-  suffixes_are = (spells_suffixes (behind_marks 95 (suffixes_text t)) pass.suffixes).digits;
+  letter_is = letter_is_small (after_components t);
+  suffixes_are = (spells_suffixes (after_marks 95 (suffixes_text t)) pass.suffixes).digits;
   revision_is = (spells_revision (revision_text t) pass.revision).digits;
 }
 

@@ -1,4 +1,4 @@
--- Replaced separators, with numbers read as no more than a place behind the last one.
+-- Replaced separators, with numbers read as no more than a place after the last one.
 use Rattle.std.proofs.Common.{◌≡◌, ℕ, ◌+◌, ◌<◌, ◌≤◌, ◌&&◌, inl, inr, Bool, nat_le, not, if◌then◌else◌, List, [], ◌∷◌, ◌++◌, length, map, drop, get_or, min, append_assoc, append-nil, Option, Some, None, refl, ap, sym, ◌∙◌, arith}
 use Rattle.std.specs.List.{take_while}
 use Rattle.std.specs.Option.{option_map}
@@ -84,14 +84,14 @@ put-none v first text all last parts items read last_is items_are first_is put =
 -- a component and its separator more
 pub put-more : (text with_component with_both separator total : Text) (all : List Replacement) (i last : ℕ) (items : List Part) (part d : Part) → i < length items → part ≡ get_or items i d → separator ≡ separator_after all (i + 1) last part.separator.now → with_component ≡ text ++ part.component.now → with_both ≡ with_component ++ separator → text ++ joined_rest (replaced_rest all (i + 1) last (map seen_piece (drop i items))) ≡ total → with_both ++ joined_rest (replaced_rest all (i + 1 + 1) last (map seen_piece (drop (i + 1) items))) ≡ total
 put-more text with_component with_both separator total all i last items part d within here s put_component put_separator so_far =
-    let behind : Text = joined_rest (replaced_rest all (i + 1 + 1) last (map seen_piece (drop (i + 1) items))) in
+    let after : Text = joined_rest (replaced_rest all (i + 1 + 1) last (map seen_piece (drop (i + 1) items))) in
     let next : drop i items ≡ part ∷ drop (i + 1) items = at_drop_more (λ ps. ps) items i d within ∙ ap (λ (p : Part). p ∷ drop (i + 1) items) (sym here) in
-    let turn : text ++ joined_rest (replaced_rest all (i + 1) last (map seen_piece (drop i items))) ≡ text ++ (part.component.now ++ (separator ++ behind)) =
+    let turn : text ++ joined_rest (replaced_rest all (i + 1) last (map seen_piece (drop i items))) ≡ text ++ (part.component.now ++ (separator ++ after)) =
     ap (λ (ps : List Part). text ++ joined_rest (replaced_rest all (i + 1) last (map seen_piece ps))) next
-    ∙ ap (λ (t : Text). text ++ (part.component.now ++ (t ++ behind))) (sym s) in
-    ap (λ (t : Text). t ++ behind) (put_separator ∙ ap (λ (t : Text). t ++ separator) put_component)
-    ∙ append_assoc (text ++ part.component.now) separator behind
-    ∙ append_assoc text part.component.now (separator ++ behind)
+    ∙ ap (λ (t : Text). text ++ (part.component.now ++ (t ++ after))) (sym s) in
+    ap (λ (t : Text). t ++ after) (put_separator ∙ ap (λ (t : Text). t ++ separator) put_component)
+    ∙ append_assoc (text ++ part.component.now) separator after
+    ∙ append_assoc text part.component.now (separator ++ after)
     ∙ sym turn
     ∙ so_far
 

@@ -1,19 +1,10 @@
 -- Runs of bytes.
-use Rattle.std.proofs.Common.{◌≡◌, ℕ, ◌+◌, Bool, true, false, not, ◌&&◌, cond, [], ◌∷◌, drop, refl, ap, ◌∙◌, arith}
+use Rattle.std.proofs.Common.{◌≡◌, ℕ, ◌+◌, Bool, true, false, ◌&&◌, cond, [], ◌∷◌, drop, refl, ap, ◌∙◌, arith}
 use Rattle.std.specs.List.{list_all, prefix_len, take_while}
 use Rattle.std.proofs.lemmas.List.Sums.{take_while-cons}
 use Rattle.std.proofs.lemmas.Bool.{and_parts}
 use Rattle.eb_bytes.specs.Text.{Text}
 use Rattle.version_funcs.specs.Byte.{after_while}
-
--- a run that ends at the first byte not outside of a class
-pub prefix_len-twice : (p : ℕ → Bool) (t : Text) → prefix_len (λ b. not (not (p b))) t ≡ prefix_len p t
-prefix_len-twice p [] = refl
-prefix_len-twice p (b ∷ t) = on (p b) refl (prefix_len-twice p t)
-  where
-    on : (v : Bool) → p b ≡ v → prefix_len (λ b. not (not (p b))) t ≡ prefix_len p t → prefix_len (λ b. not (not (p b))) (b ∷ t) ≡ prefix_len p (b ∷ t)
-    on true e rest = rw e (ap (λ n. 1 + n) rest)
-    on false e rest = rw e refl
 
 pub take_while-goes_on : (p : ℕ → Bool) (b : ℕ) (t : Text) → p b ≡ true → take_while p (b ∷ t) ≡ b ∷ take_while p t
 take_while-goes_on p b t e = take_while-cons p b t ∙ ap (λ (v : Bool). cond v (b ∷ take_while p t) []) e

@@ -4,9 +4,10 @@ use Rattle.std.specs.List.{take_while}
 use Rattle.std.proofs.lemmas.Bool.{and_parts, eqb-true, leb-true, or_cases}
 use Rattle.std.proofs.lemmas.List.{nil_from_length}
 use Rattle.eb_bytes.specs.Text.{Text}
-use Rattle.version_funcs.specs.Byte.{is_digit, is_letter, is_separator, after_while}
+use Rattle.eb_bytes.specs.Class.{is_digit, is_letter}
+use Rattle.version_funcs.specs.Byte.{is_separator, after_while}
 use Rattle.version_funcs.specs.Pieces.{Piece, Pieces, are_alike, goes_on, joined, joined_rest, led_by, pieces}
-use Rattle.version_funcs.specs.Seen.{behind_component, fellows, leading_component}
+use Rattle.version_funcs.specs.Seen.{after_component, fellows, leading_component}
 use Rattle.version_funcs.proofs.Runs.{after_while-goes_on, after_while-stops, take_while-goes_on, take_while-stops}
 
 -- ---- separators
@@ -39,9 +40,9 @@ rest-separators (b ∷ t) = on (is_separator b) refl (rest-separators t)
     on true e rest = rest-separator b t e ∙ rest ∙ ap (λ (u : Text). (pieces u).rest) (sym (after_while-goes_on is_separator b t e))
     on false e rest = ap (λ (u : Text). (pieces u).rest) (sym (after_while-stops is_separator b t e))
 
-pub first-behind_separators : (t : Text) → (pieces (after_while is_separator t)).first ≡ []
-first-behind_separators [] = refl
-first-behind_separators (b ∷ t) = on (is_separator b) refl (first-behind_separators t)
+pub first-after_separators : (t : Text) → (pieces (after_while is_separator t)).first ≡ []
+first-after_separators [] = refl
+first-after_separators (b ∷ t) = on (is_separator b) refl (first-after_separators t)
   where
     on : (v : Bool) → is_separator b ≡ v → (pieces (after_while is_separator t)).first ≡ [] → (pieces (after_while is_separator (b ∷ t))).first ≡ []
     on true e clear = ap (λ (u : Text). (pieces u).first) (after_while-goes_on is_separator b t e) ∙ clear
@@ -150,7 +151,7 @@ letter_run = record { within = λ b h. within b h; alike = λ b c h k. alike b c
         apart_on false e = rw (h, k, e) refl
 
 -- the first component of a text that begins with one
-pub rest-leading : (b : ℕ) (t : Text) → is_separator b ≡ false → (pieces (b ∷ t)).rest ≡ record { component = leading_component (b ∷ t); separator = (pieces (behind_component (b ∷ t))).first } ∷ (pieces (behind_component (b ∷ t))).rest
+pub rest-leading : (b : ℕ) (t : Text) → is_separator b ≡ false → (pieces (b ∷ t)).rest ≡ record { component = leading_component (b ∷ t); separator = (pieces (after_component (b ∷ t))).first } ∷ (pieces (after_component (b ∷ t))).rest
 rest-leading b t e = on (is_digit b) refl (is_letter b) refl
   where
     whole : (ℕ → Bool) → List Piece
@@ -182,11 +183,11 @@ joined-pieces (b ∷ t) = on (is_separator b) refl (joined-pieces t)
     on false e rest = rw e (joined-led_by b (pieces t).first (pieces t).rest ∙ ap (λ (s : Text). b ∷ s) rest)
 
 -- a text that begins with no separator
-pub rest-clear : (t : Text) → (pieces t).first ≡ [] → (length t == 0) ≡ false → (pieces t).rest ≡ record { component = leading_component t; separator = (pieces (behind_component t)).first } ∷ (pieces (behind_component t)).rest
+pub rest-clear : (t : Text) → (pieces t).first ≡ [] → (length t == 0) ≡ false → (pieces t).rest ≡ record { component = leading_component t; separator = (pieces (after_component t)).first } ∷ (pieces (after_component t)).rest
 rest-clear [] clear some = absurd (cc)
 rest-clear (b ∷ t) clear some = on (is_separator b) refl
   where
-    on : (v : Bool) → is_separator b ≡ v → (pieces (b ∷ t)).rest ≡ record { component = leading_component (b ∷ t); separator = (pieces (behind_component (b ∷ t))).first } ∷ (pieces (behind_component (b ∷ t))).rest
+    on : (v : Bool) → is_separator b ≡ v → (pieces (b ∷ t)).rest ≡ record { component = leading_component (b ∷ t); separator = (pieces (after_component (b ∷ t))).first } ∷ (pieces (after_component (b ∷ t))).rest
     on true e = absurd (let long : b ∷ (pieces t).first ≡ [] = sym (first-separator b t e) ∙ clear in cc)
     on false e = rest-leading b t e
 
@@ -194,18 +195,18 @@ pub nil_since : (t : Text) → (length t == 0) ≡ true → t ≡ []
 nil_since t e = nil_from_length t (eqb-true (length t) 0 e)
 
 -- the first component of a text and its separator, as they are read
-pub rest-split : (text from component behind separator rest : Text) → from ≡ after_while is_separator text → (length from == 0) ≡ false → component ≡ leading_component from → behind ≡ behind_component from → separator ≡ take_while is_separator behind → rest ≡ after_while is_separator behind → (pieces text).rest ≡ record { component = component; separator = separator } ∷ (pieces rest).rest
-rest-split text from component behind separator rest f some c b s r =
-    let clear : (pieces from).first ≡ [] = ap (λ (u : Text). (pieces u).first) f ∙ first-behind_separators text in
+pub rest-split : (text from component after separator rest : Text) → from ≡ after_while is_separator text → (length from == 0) ≡ false → component ≡ leading_component from → after ≡ after_component from → separator ≡ take_while is_separator after → rest ≡ after_while is_separator after → (pieces text).rest ≡ record { component = component; separator = separator } ∷ (pieces rest).rest
+rest-split text from component after separator rest f some c b s r =
+    let clear : (pieces from).first ≡ [] = ap (λ (u : Text). (pieces u).first) f ∙ first-after_separators text in
     rest-separators text
     ∙ ap (λ (u : Text). (pieces u).rest) (sym f)
     ∙ rest-clear from clear some
-    ∙ ap (λ (front : Text). let piece : Piece = record { component = front; separator = (pieces (behind_component from)).first } in piece ∷ (pieces (behind_component from)).rest) (sym c)
+    ∙ ap (λ (front : Text). let piece : Piece = record { component = front; separator = (pieces (after_component from)).first } in piece ∷ (pieces (after_component from)).rest) (sym c)
     ∙ ap (λ (u : Text). let piece : Piece = record { component = component; separator = (pieces u).first } in piece ∷ (pieces u).rest) (sym b)
-    ∙ ap (λ (u : Text). let piece : Piece = record { component = component; separator = u } in piece ∷ (pieces behind).rest) (first-separators behind ∙ sym s)
-    ∙ ap (λ (ps : List Piece). let piece : Piece = record { component = component; separator = separator } in piece ∷ ps) (rest-separators behind ∙ ap (λ (u : Text). (pieces u).rest) (sym r))
+    ∙ ap (λ (u : Text). let piece : Piece = record { component = component; separator = u } in piece ∷ (pieces after).rest) (first-separators after ∙ sym s)
+    ∙ ap (λ (ps : List Piece). let piece : Piece = record { component = component; separator = separator } in piece ∷ ps) (rest-separators after ∙ ap (λ (u : Text). (pieces u).rest) (sym r))
 
--- a text without components behind its first separator
+-- a text without components after its first separator
 pub rest-none : (text from : Text) → from ≡ after_while is_separator text → (length from == 0) ≡ true → (pieces text).rest ≡ []
 rest-none text from f none = rest-separators text ∙ ap (λ (u : Text). (pieces u).rest) (sym f ∙ nil_since from none)
 

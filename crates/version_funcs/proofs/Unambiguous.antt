@@ -3,11 +3,11 @@ use Rattle.std.proofs.Common.{◌≡◌, true, List, [], ◌∷◌, map, Option,
 use Rattle.std.specs.List.{list_all}
 use Rattle.eb_bytes.specs.Text.{Text}
 use Rattle.version_funcs.specs.Version.{Suffix, Version, IsWellFormed, is_suffix, spelled_suffix, spelled_revision, spelling}
-use Rattle.version_funcs.specs.Walk.{behind_marks, suffix_of}
+use Rattle.version_funcs.specs.Walk.{after_marks, suffix_of}
 use Rattle.version_funcs.specs.Laws.{IsUnambiguous}
 use Rattle.version_funcs.proofs.Marks.{first_true, rest_true}
 use Rattle.version_funcs.proofs.Spelled.{PartsAre, parts_are}
-use Rattle.version_funcs.proofs.Reading.{suffix_of-spelled, components-behind_marks, suffixes-behind_marks}
+use Rattle.version_funcs.proofs.Reading.{suffix_of-spelled, components-after_marks, suffixes-after_marks}
 
 same_suffix : (s r : Suffix) → is_suffix s ≡ true → is_suffix r ≡ true → spelled_suffix s ≡ spelled_suffix r → s ≡ r
 same_suffix s r digits_s digits_r e =
@@ -33,9 +33,9 @@ same_revision (Some a) (Some b) e = let digits : a ≡ b = cc in ap (λ (t : Tex
 same_parts : (t : Text) (v w : Version) → IsWellFormed v → IsWellFormed w → PartsAre t v → PartsAre t w → v ≡ w
 same_parts t v w well_v well_w parts_v parts_w =
     let first : v.first ≡ w.first = sym parts_v.first ∙ parts_w.first in
-    let later : v.later ≡ w.later = sym (components-behind_marks v.later well_v.later_are) ∙ ap (behind_marks 46) (sym parts_v.later ∙ parts_w.later) ∙ components-behind_marks w.later well_w.later_are in
+    let later : v.later ≡ w.later = sym (components-after_marks v.later well_v.later_are) ∙ ap (after_marks 46) (sym parts_v.later ∙ parts_w.later) ∙ components-after_marks w.later well_w.later_are in
     let letter : v.letter ≡ w.letter = sym parts_v.letter ∙ parts_w.letter in
-    let texts : map spelled_suffix v.suffixes ≡ map spelled_suffix w.suffixes = sym (suffixes-behind_marks v.suffixes well_v.suffixes_are) ∙ ap (behind_marks 95) (sym parts_v.suffixes ∙ parts_w.suffixes) ∙ suffixes-behind_marks w.suffixes well_w.suffixes_are in
+    let texts : map spelled_suffix v.suffixes ≡ map spelled_suffix w.suffixes = sym (suffixes-after_marks v.suffixes well_v.suffixes_are) ∙ ap (after_marks 95) (sym parts_v.suffixes ∙ parts_w.suffixes) ∙ suffixes-after_marks w.suffixes well_w.suffixes_are in
     let suffixes : v.suffixes ≡ w.suffixes = same_suffixes v.suffixes w.suffixes well_v.suffixes_are well_w.suffixes_are texts in
     let revision : v.revision ≡ w.revision = same_revision v.revision w.revision (sym parts_v.revision ∙ parts_w.revision) in
     λ i. record { first = first i; later = later i; letter = letter i; suffixes = suffixes i; revision = revision i }

@@ -1,25 +1,13 @@
--- Bytes, their classes, and runs of them.
-use Rattle.std.specs.Prelude.{ℕ, Bool, ◌==◌, ◌&&◌, ◌||◌, not, nat_le, drop}
+-- Classes of bytes, and runs of them.
+use Rattle.std.specs.Prelude.{ℕ, Bool, ◌==◌, ◌||◌, not, drop}
 use Rattle.std.specs.List.{prefix_len}
+use Rattle.eb_bytes.specs.Class.{is_digit, is_letter, is_lower, is_zero}
 use Rattle.eb_bytes.specs.Text.{Text}
 use Rattle.version_funcs.specs.declared.class.Class.{Class}
 use Rattle.version_funcs.specs.declared.class.Class.TheVariants as class
 
-abbrev pub is_digit : ℕ → Bool
-is_digit b = nat_le 48 b && nat_le b 57
-
-abbrev pub is_zero : ℕ → Bool
-is_zero b = b == 48
-
 abbrev pub is_digit_or_dot : ℕ → Bool
 is_digit_or_dot b = is_digit b || b == 46
-
-abbrev pub is_small : ℕ → Bool
-is_small b = nat_le 97 b && nat_le b 122
-
--- the letters of ASCII
-abbrev pub is_letter : ℕ → Bool
-is_letter b = nat_le 65 b && nat_le b 90 || nat_le 97 b && nat_le b 122
 
 -- what stands between the components of a text
 abbrev pub is_separator : ℕ → Bool
@@ -33,11 +21,11 @@ abbrev pub in_class : Class → ℕ → Bool
 in_class class.Digit b = is_digit b
 in_class class.DigitOrDot b = is_digit_or_dot b
 in_class class.Zero b = is_zero b
-in_class class.Small b = is_small b
+in_class class.Lower b = is_lower b
 in_class class.Letter b = is_letter b
 in_class class.Separator b = is_separator b
 in_class (class.AllBut mark) b = is_no mark b
 
--- what stands behind the longest run of such bytes at the front
+-- what stands after the longest run of such bytes at the front
 abbrev pub after_while : (ℕ → Bool) → Text → Text
 after_while p t = drop (prefix_len p t) t

@@ -2,6 +2,7 @@ pub mod Byte
 pub mod Compared
 pub mod Laws
 pub mod Maximal
+pub mod Number
 pub mod Operators
 pub mod Order
 pub mod Pieces

@@ -18,7 +18,7 @@ operator_named name =
     else (if bytes_eq name (codes "-le") then Some operator.NotGreater
     else None)))))
 
--- whether versions that stand so to each other pass the test
+-- whether versions that compare so pass the test
 abbrev pub holds : Operator → Ordering → Bool
 holds operator.Equal order = is_eq order
 holds operator.NotEqual order = is_ne order

@@ -1,5 +1,5 @@
 -- The order of versions (Package Manager Specification, "Version Comparison").
-use Rattle.std.specs.Prelude.{ℕ, ◌+◌, ◌-◌, ◌*◌, ◌^◌, Bool, false, ◌||◌, List, [], ◌∷◌, length, reverse, Option, Some, None, if◌then◌else◌}
+use Rattle.std.specs.Prelude.{Bool, false, ◌||◌, List, [], ◌∷◌, reverse, Option, Some, None, if◌then◌else◌}
 use Rattle.std.specs.Option.{option_cmp}
 use Rattle.std.specs.Ordering.{nat_cmp, ordering_then, ordering_reverse}
 use Rattle.std.specs.Cmp.Lexicographic.{slice_cmp}
@@ -8,17 +8,10 @@ use Rattle.std.specs.declared.cmp.Ordering.TheVariants.{Less, Equal, Greater}
 use Rattle.eb_bytes.specs.Text.{Text}
 use Rattle.version_funcs.specs.declared.kind.SuffixKind.{SuffixKind}
 use Rattle.version_funcs.specs.declared.kind.SuffixKind.TheVariants.{Patch}
+use Rattle.version_funcs.specs.Number.{number_order}
 use Rattle.version_funcs.specs.Version.{Suffix, Version, kind_rank}
-use Rattle.version_funcs.specs.Byte.{after_while, is_zero}
-
--- the number that these digits write; without digits it is 0
-abbrev pub value : Text → ℕ
-value [] = 0
-value (digit ∷ digits) = (digit - 48) * 10 ^ length digits + value digits
-
--- by the numbers that the digits write
-abbrev pub number_order : Text → Text → Ordering
-number_order a b = nat_cmp (value a) (value b)
+use Rattle.eb_bytes.specs.Class.{is_zero}
+use Rattle.version_funcs.specs.Byte.{after_while}
 
 abbrev pub begins_with_zero : Text → Bool
 begins_with_zero [] = false
@@ -39,7 +32,7 @@ component_order a b =
 abbrev pub suffix_order : Suffix → Suffix → Ordering
 suffix_order s r = ordering_then (nat_cmp (kind_rank s.kind) (kind_rank r.kind)) (number_order s.number r.number)
 
--- how a list of suffixes that goes on with a suffix of this kind stands to one that ends
+-- how a longer list of suffixes, whose next suffix has this kind, compares with the shorter one
 abbrev pub longer_order : SuffixKind → Ordering
 longer_order Patch = Greater
 longer_order _ = Less

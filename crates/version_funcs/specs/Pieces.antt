@@ -1,7 +1,8 @@
 -- A text as components and separators (Package Manager Specification, version manipulation functions).
 use Rattle.std.specs.Prelude.{ℕ, Bool, false, ◌&&◌, ◌||◌, List, [], ◌∷◌, ◌++◌, if◌then◌else◌}
 use Rattle.eb_bytes.specs.Text.{Text}
-use Rattle.version_funcs.specs.Byte.{is_digit, is_letter, is_separator}
+use Rattle.eb_bytes.specs.Class.{is_digit, is_letter}
+use Rattle.version_funcs.specs.Byte.{is_separator}
 
 -- ---- bytes
 
@@ -11,7 +12,7 @@ are_alike a b = is_digit a && is_digit b || is_letter a && is_letter b
 
 -- ---- pieces
 
--- a component, and the separator behind it, which may be empty
+-- a component, and the separator after it, which may be empty
 pub record Piece : Type 0 where
   pub component : Text
   pub separator : Text
@@ -34,7 +35,7 @@ abbrev pub goes_on : ℕ → Text → Bool
 goes_on b [] = false
 goes_on b (c ∷ component) = are_alike b c
 
--- the components behind this byte of a component, with the byte: it leads the first one, or is one by itself
+-- the components after this byte of a component, with the byte: it leads the first one, or is one by itself
 abbrev pub led_by : ℕ → Text → List Piece → List Piece
 led_by b [] (piece ∷ more) = if goes_on b piece.component then record { component = b ∷ piece.component; separator = piece.separator } ∷ more else record { component = b ∷ []; separator = [] } ∷ piece ∷ more
 led_by b separator rest = record { component = b ∷ []; separator = separator } ∷ rest

@@ -1,11 +1,12 @@
 -- Ranges of components and separators, and what they cut out and replace (Package Manager Specification, version
 -- manipulation functions).
-use Rattle.std.specs.Prelude.{ℕ, zero, suc, ◌+◌, ◌-◌, Bool, true, ◌==◌, ◌&&◌, ◌||◌, not, nat_le, map, drop, length, List, [], ◌∷◌, ◌++◌, Option, Some, None, if◌then◌else◌}
+use Rattle.std.specs.Prelude.{ℕ, zero, suc, ◌+◌, ◌-◌, Bool, true, ◌==◌, ◌&&◌, ◌||◌, not, nat_le, drop, length, List, [], ◌∷◌, ◌++◌, Option, Some, None, if◌then◌else◌}
 use Rattle.std.specs.List.{list_all, take_while}
 use Rattle.std.specs.Option.{option_map}
-use Rattle.std.specs.Int.Digits.{number_from_digits}
 use Rattle.eb_bytes.specs.Text.{Text, has_bytes}
-use Rattle.version_funcs.specs.Byte.{is_digit, after_while}
+use Rattle.eb_bytes.specs.Class.{is_digit}
+use Rattle.version_funcs.specs.Byte.{after_while}
+use Rattle.version_funcs.specs.Number.{number}
 use Rattle.version_funcs.specs.Pieces.{Piece, Pieces, pieces, joined, joined_rest}
 
 -- ---- ranges
@@ -14,14 +15,6 @@ use Rattle.version_funcs.specs.Pieces.{Piece, Pieces, pieces, joined, joined_res
 pub record Range : Type 0 where
   pub from : ℕ
   pub to : Option ℕ
-
--- the number of a digit
-abbrev pub digit : ℕ → ℕ
-digit b = b - 48
-
--- the number that decimal digits write, with any number of leading zeros
-abbrev pub number : Text → ℕ
-number digits = number_from_digits 10 (map digit digits)
 
 -- the range whose hyphen stands before this text
 abbrev pub open_range : ℕ → Text → Option Range

@@ -6,11 +6,12 @@ use Rattle.eb_bytes.specs.Text.{Text}
 use Rattle.version_funcs.specs.declared.pieces.Part.{Part}
 use Rattle.version_funcs.specs.declared.range.Places.{Places}
 use Rattle.version_funcs.specs.declared.replace.Swap.{Swap}
-use Rattle.version_funcs.specs.Byte.{is_digit, is_letter, after_while}
+use Rattle.eb_bytes.specs.Class.{is_digit, is_letter}
+use Rattle.version_funcs.specs.Byte.{after_while}
 use Rattle.version_funcs.specs.Pieces.{Piece}
 use Rattle.version_funcs.specs.Range.{Range, Replacement}
 
--- the bytes that may stand behind this one in its component
+-- the bytes that may stand after this one in its component
 abbrev pub fellows : ℕ → ℕ → Bool
 fellows b = if is_digit b then is_digit else is_letter
 
@@ -18,8 +19,8 @@ fellows b = if is_digit b then is_digit else is_letter
 abbrev pub leading_component : Text → Text
 leading_component t = take_while (fellows (slice_index t 0)) t
 
-abbrev pub behind_component : Text → Text
-behind_component t = after_while (fellows (slice_index t 0)) t
+abbrev pub after_component : Text → Text
+after_component t = after_while (fellows (slice_index t 0)) t
 
 abbrev pub seen_piece : Part → Piece
 seen_piece p = record { component = p.component.now; separator = p.separator.now }

@@ -4,7 +4,7 @@ use Rattle.std.specs.List.{list_all}
 use Rattle.eb_bytes.specs.Text.{Text, has_bytes}
 use Rattle.version_funcs.specs.declared.kind.SuffixKind.{SuffixKind}
 use Rattle.version_funcs.specs.declared.kind.SuffixKind.TheVariants.{Alpha, Beta, Pre, Candidate, Patch}
-use Rattle.version_funcs.specs.Byte.{is_digit, is_small}
+use Rattle.eb_bytes.specs.Class.{is_digit, is_lower}
 
 -- ---- numbers
 
@@ -54,13 +54,13 @@ is_none_or p (Some x) = p x
 pub record IsWellFormed (v : Version) : Type 0 where
   pub first_is : is_number v.first ≡ true
   pub later_are : list_all is_number v.later ≡ true
-  pub letter_is : is_none_or is_small v.letter ≡ true
+  pub letter_is : is_none_or is_lower v.letter ≡ true
   pub suffixes_are : list_all is_suffix v.suffixes ≡ true
   pub revision_is : is_none_or is_number v.revision ≡ true
 
 -- ---- spelling
 
--- the parts, each behind this mark
+-- the parts, each after this mark
 abbrev pub marked : ℕ → List Text → Text
 marked mark [] = []
 marked mark (part ∷ parts) = mark ∷ (part ++ marked mark parts)
@@ -76,8 +76,8 @@ abbrev pub spelled_revision : Option Text → Text
 spelled_revision None = []
 spelled_revision (Some number) = 45 ∷ 114 ∷ number
 
--- the first component, the later ones each behind a dot, the letter, the suffixes each behind an underscore, and the
--- revision behind `-r`
+-- the first component, the later ones each after a dot, the letter, the suffixes each after an underscore, and the
+-- revision after `-r`
 abbrev pub spelling : Version → Text
 spelling v =
     v.first ++ (marked 46 v.later ++ (spelled_letter v.letter ++ (marked 95 (map spelled_suffix v.suffixes) ++ spelled_revision v.revision)))

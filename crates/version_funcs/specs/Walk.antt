@@ -5,15 +5,16 @@ use Rattle.std.specs.Str.{bytes_eq}
 use Rattle.eb_bytes.specs.Text.{Text}
 use Rattle.version_funcs.specs.declared.kind.SuffixKind.{SuffixKind}
 use Rattle.version_funcs.specs.declared.kind.SuffixKind.TheVariants.{Alpha, Beta, Pre, Candidate, Patch}
-use Rattle.version_funcs.specs.Byte.{is_digit, is_small, is_digit_or_dot, is_no, after_while}
+use Rattle.eb_bytes.specs.Class.{is_digit, is_lower}
+use Rattle.version_funcs.specs.Byte.{is_digit_or_dot, is_no, after_while}
 use Rattle.version_funcs.specs.Version.{Suffix, is_number}
 
 -- ---- marks
 
--- what stands behind each mark of a text that begins with the mark or is empty
-abbrev pub behind_marks : ℕ → Text → List Text
-behind_marks mark [] = []
-behind_marks mark (b ∷ t) = slice_split (λ c. c == mark) t
+-- what stands after each mark of a text that begins with the mark or is empty
+abbrev pub after_marks : ℕ → Text → List Text
+after_marks mark [] = []
+after_marks mark (b ∷ t) = slice_split (λ c. c == mark) t
 
 -- whether the text begins with the mark or is empty
 abbrev pub begins_piece : ℕ → Text → Bool
@@ -24,31 +25,31 @@ begins_piece mark (b ∷ t) = b == mark
 
 abbrev pub letter_of : Text → Option ℕ
 letter_of [] = None
-letter_of (b ∷ t) = if is_small b then Some b else None
+letter_of (b ∷ t) = if is_lower b then Some b else None
 
-abbrev pub behind_letter : Text → Text
-behind_letter [] = []
-behind_letter (b ∷ t) = if is_small b then t else b ∷ t
+abbrev pub after_letter : Text → Text
+after_letter [] = []
+after_letter (b ∷ t) = if is_lower b then t else b ∷ t
 
 -- the first component
 abbrev pub first_text : Text → Text
 first_text t = take_while is_digit t
 
--- the later components, each behind its dot
+-- the later components, each after its dot
 abbrev pub later_text : Text → Text
 later_text t = take_while is_digit_or_dot (after_while is_digit t)
 
--- what stands behind the components
-abbrev pub behind_components : Text → Text
-behind_components t = after_while is_digit_or_dot (after_while is_digit t)
+-- what stands after the components
+abbrev pub after_components : Text → Text
+after_components t = after_while is_digit_or_dot (after_while is_digit t)
 
--- the suffixes, each behind its underscore
+-- the suffixes, each after its underscore
 abbrev pub suffixes_text : Text → Text
-suffixes_text t = take_while (is_no 45) (behind_letter (behind_components t))
+suffixes_text t = take_while (is_no 45) (after_letter (after_components t))
 
 -- the hyphen, the r and the digits of the revision
 abbrev pub revision_text : Text → Text
-revision_text t = after_while (is_no 45) (behind_letter (behind_components t))
+revision_text t = after_while (is_no 45) (after_letter (after_components t))
 
 abbrev pub is_revision : Text → Bool
 is_revision [] = true
@@ -71,7 +72,7 @@ with_number (Some kind) number = if list_all is_digit number then Some (record {
 
 -- the suffix that is spelled so
 abbrev pub suffix_of : Text → Option Suffix
-suffix_of piece = with_number (kind_named (take_while is_small piece)) (after_while is_small piece)
+suffix_of piece = with_number (kind_named (take_while is_lower piece)) (after_while is_lower piece)
 
 abbrev pub is_suffix_text : Text → Bool
 is_suffix_text piece = is_some (suffix_of piece)
@@ -80,7 +81,7 @@ is_suffix_text piece = is_some (suffix_of piece)
 abbrev pub is_version_text : Text → Bool
 is_version_text t =
     is_number (first_text t)
-    && (list_all is_number (behind_marks 46 (later_text t))
+    && (list_all is_number (after_marks 46 (later_text t))
     && (begins_piece 95 (suffixes_text t)
-    && (list_all is_suffix_text (behind_marks 95 (suffixes_text t))
+    && (list_all is_suffix_text (after_marks 95 (suffixes_text t))
     && is_revision (revision_text t))))

@@ -5,21 +5,23 @@ ghost use Rattle.version_funcs.specs.Compared.{component_text_order, digits_orde
 ghost use Rattle.version_funcs.specs.Operators.{holds, operator_named as operator_of_name};
 ghost use Rattle.version_funcs.specs.Order.{version_order, without_last_zeros as without_last_zeros_text, begins_with_zero as begins_with_zero_text};
 ghost use Rattle.version_funcs.specs.Version.{Version, IsVersionText, IsWellFormed, spelling};
-ghost use Rattle.version_funcs.specs.Walk.{behind_marks};
+ghost use Rattle.version_funcs.specs.Walk.{after_marks};
 
-use crate::class::{Class, next_piece, split_run};
+use crate::class::next_piece;
 use crate::error::VerErr;
+use crate::number::compare_numbers;
 use crate::operator::operator_named;
-use crate::read::{parts_of, read_suffix, read_version};
+use crate::read::{read_suffix, read_version, version_parts};
 use std::cmp::Ordering;
 
-/// How the first version stands to the second one (Package Manager Specification, "Version Comparison"). Takes no memory.
+/// How the first version compares with the second one (Package Manager Specification, "Version Comparison"). Takes no
+/// memory.
 pub fn compare_versions(a: &[u8], b: &[u8]) -> Ordering
     requires first_is_a_version { IsVersionText a.now }
     requires second_is_a_version { IsVersionText b.now }
     ensures { (v w : Version) → IsWellFormed v → IsWellFormed w → a.now ≡ spelling v → b.now ≡ spelling w → result ≡ version_order v w }
 {
-    let (v, w) = (parts_of(a), parts_of(b));
+    let (v, w) = (version_parts(a), version_parts(b));
     compare_numbers(v.first, w.first)
         .then(compare_later(v.later, w.later))
         .then(v.letter.cmp(&w.letter))
@@ -27,18 +29,9 @@ pub fn compare_versions(a: &[u8], b: &[u8]) -> Ordering
         .then(compare_revisions(v.revision, w.revision))
 }
 
-// Which of two numbers is greater, by their digits.
-fn compare_numbers(a: &[u8], b: &[u8]) -> Ordering
-    ensures { result ≡ digits_order a.now b.now }
-{
-    let (_, a) = split_run(Class::Zero, a);
-    let (_, b) = split_run(Class::Zero, b);
-    a.len().cmp(&b.len()).then(a.cmp(b))
-}
-
 // Which of two lists of later components is greater.
 fn compare_later(a: &[u8], b: &[u8]) -> Ordering
-    ensures { result ≡ slice_cmp component_text_order (behind_marks 46 a.now) (behind_marks 46 b.now) }
+    ensures { result ≡ slice_cmp component_text_order (after_marks 46 a.now) (after_marks 46 b.now) }
 {
     let (mut a_left, mut b_left) = (a, b);
     'components: loop {
@@ -92,7 +85,7 @@ fn without_last_zeros(text: &[u8]) -> &[u8]
 
 // Which of two lists of suffixes is greater.
 fn compare_suffixes(a: &[u8], b: &[u8]) -> Ordering
-    ensures { result ≡ suffix_texts_order (behind_marks 95 a.now) (behind_marks 95 b.now) }
+    ensures { result ≡ suffix_texts_order (after_marks 95 a.now) (after_marks 95 b.now) }
 {
     let (mut a_left, mut b_left) = (a, b);
     'suffixes: loop {
@@ -126,7 +119,7 @@ fn compare_suffix(a: &[u8], b: &[u8]) -> Ordering
     }
 }
 
-// How a list of suffixes that goes on with this one stands to one that ends.
+// How a longer list of suffixes, whose next suffix is this one, compares with the shorter one.
 fn compare_longer(piece: &[u8]) -> Ordering
     ensures { result ≡ longer_text_order piece.now }
 {
@@ -143,7 +136,7 @@ fn compare_revisions(a: &[u8], b: &[u8]) -> Ordering
     compare_numbers(revision_digits(a), revision_digits(b))
 }
 
-// The digits behind `-r`, none where the text is empty.
+// The digits after `-r`, none where the text is empty.
 fn revision_digits(revision: &[u8]) -> &[u8]
     ensures { result.now ≡ drop 2 revision.now }
 {
@@ -153,8 +146,8 @@ fn revision_digits(revision: &[u8]) -> &[u8]
     }
 }
 
-/// Whether the first version stands to the second one as the operator says: `-eq`, `-ne`, `-gt`, `-ge`, `-lt` or `-le`,
-/// by the order of versions. Takes no memory.
+/// Whether the first version compares with the second one as the operator says: `-eq`, `-ne`, `-gt`, `-ge`, `-lt` or
+/// `-le`, by the order of versions. Takes no memory.
 ///
 /// # Errors
 /// `BadOperator` where the operator is none of these, and else `BadVersion` where one of the texts is no version.

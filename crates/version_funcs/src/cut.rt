@@ -40,7 +40,7 @@ fn cut_rest(places: Places, text: &[u8]) -> &[u8]
 /// version manipulation functions).
 ///
 /// A component is a maximal run of digits or of letters; separator 0 stands before component 1, and each other one
-/// behind its component. A range is `a`, `a-` or `a-b` in decimal digits, where `a` means `a-a`, and a missing end or
+/// after its component. A range is `a`, `a-` or `a-b` in decimal digits, where `a` means `a-a`, and a missing end or
 /// one above the number of components means the last one. From 0 on separator 0 is given too; where the end is missing
 /// or above, the last separator. From a place above the last component on the answer is the empty text.
 ///

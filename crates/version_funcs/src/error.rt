@@ -1,15 +1,20 @@
 use eb_bytes::Memory;
+use thiserror::Error;
 
 /// Why a version function has no answer.
-#[derive(Clone, Copy, Debug, PartialEq, Eq)]
+#[derive(Clone, Copy, Debug, PartialEq, Eq, Error)]
 pub enum VerErr {
     /// The text is no range.
+    #[error("not a range of version components")]
     BadRange,
     /// The text is no version.
+    #[error("not a version")]
     BadVersion,
     /// The text is no comparison operator.
+    #[error("not a version comparison operator")]
     BadOperator,
-    /// Memory ran out.
+    /// Out of memory.
+    #[error("out of memory")]
     Memory,
 }
 

@@ -34,7 +34,7 @@ impl SuffixKind {
         }
     }
 
-    // How a list of suffixes that goes on with a suffix of this kind stands to one that ends.
+    // How a longer list of suffixes, whose next suffix has this kind, compares with the shorter one.
     pub(crate) fn longer_order(self) -> Ordering
         ensures { result ≡ longer_order self }
     {

@@ -27,7 +27,7 @@ pub fn order_is_transitive()
     ensures { IsTransitive }
 {}
 
-/// The pieces of a text, one behind the other, are the text.
+/// The pieces of a text, one after the other, are the text.
 pub fn pieces_make_up_the_text()
     ensures { (text : Text) → joined (pieces text) ≡ text }
 {}

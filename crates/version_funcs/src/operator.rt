@@ -3,7 +3,7 @@ ghost use Rattle.version_funcs.specs.Operators.{holds, operator_named as operato
 
 use std::cmp::Ordering;
 
-// What two versions are tested for.
+// A test of two versions.
 #[derive(Clone, Copy)]
 pub(crate) enum Operator {
     // `-eq`
@@ -21,7 +21,7 @@ pub(crate) enum Operator {
 }
 
 impl Operator {
-    // Whether versions that stand so to each other pass the test.
+    // Whether versions that compare so pass the test.
     pub(crate) fn holds(self, order: Ordering) -> bool
         ensures { result ≡ holds self order }
     {

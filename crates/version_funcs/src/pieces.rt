@@ -2,13 +2,13 @@ ghost use Rattle.std.specs.Prelude.{◌≡◌, [], ◌∷◌, drop, map, not, po
 ghost use Rattle.std.specs.List.{prefix_len, take_while};
 ghost use Rattle.version_funcs.specs.Pieces.{pieces};
 ghost use Rattle.version_funcs.specs.Byte.{after_while, in_class};
-ghost use Rattle.version_funcs.specs.Seen.{behind_component, fellows, leading_component, seen_piece};
+ghost use Rattle.version_funcs.specs.Seen.{after_component, fellows, leading_component, seen_piece};
 
 use crate::class::{Class, split_run};
 use eb_bytes::Memory;
 use std::alloc::Global;
 
-/// A component of a text, and the separator behind it, which may be empty.
+/// A component of a text, and the separator after it, which may be empty.
 #[derive(Clone, Copy)]
 pub struct Part<'a> {
     pub component: &'a [u8],
@@ -25,16 +25,16 @@ fn leading_class(text: &[u8]) -> Class
     }
 }
 
-/// The component that a text begins with, and what stands behind it. Of a text that begins with none the component is
+/// The component that a text begins with, and what stands after it. Of a text that begins with none the component is
 /// empty.
 pub fn split_component(text: &[u8]) -> (&[u8], &[u8])
     ensures run { result.0.now ≡ leading_component text.now }
-    ensures rest { result.1.now ≡ behind_component text.now }
+    ensures rest { result.1.now ≡ after_component text.now }
 {
     split_run(leading_class(text), text)
 }
 
-/// The first component of a text with its separator, and what stands behind them, if there is a component.
+/// The first component of a text with its separator, and what stands after them, if there is a component.
 pub fn split_part(text: &[u8]) -> Option<(Part<'_>, &[u8])>
     ensures parts { MatchOption result ((pieces text.now).rest ≡ []) (λ cut. (pieces text.now).rest ≡ seen_piece cut.0 ∷ (pieces cut.1.now).rest) }
     ensures clear { IfSome result (λ cut. (pieces cut.1.now).first ≡ []) }
@@ -43,8 +43,8 @@ pub fn split_part(text: &[u8]) -> Option<(Part<'_>, &[u8])>
     if from.is_empty() {
         return None;
     }
-    let (component, behind) = split_component(from);
-    let (separator, rest) = split_run(Class::Separator, behind);
+    let (component, after) = split_component(from);
+    let (separator, rest) = split_run(Class::Separator, after);
     Some((
         Part {
             component,
@@ -54,7 +54,7 @@ pub fn split_part(text: &[u8]) -> Option<(Part<'_>, &[u8])>
     ))
 }
 
-/// What stands behind so many components and their separators; the empty text where there are fewer.
+/// What stands after so many components and their separators; the empty text where there are fewer.
 pub fn after_parts(text: &[u8], count: u128) -> &[u8]
     requires { (pieces text.now).first ≡ [] }
     ensures { pieces result.now ≡ record { first = []; rest = drop count (pieces text.now).rest } }
@@ -62,30 +62,30 @@ pub fn after_parts(text: &[u8], count: u128) -> &[u8]
     let mut rest = text;
     let mut left = count;
     while left > 0 {
-        let Some((_, behind)) = split_part(rest) else {
+        let Some((_, after)) = split_part(rest) else {
             return rest;
         };
-        rest = behind;
+        rest = after;
         left -= 1;
     }
     rest
 }
 
-// The components of a text from left to right, each with the separator behind it.
+// The components of a text from left to right, each with the separator after it.
 #[derive(Clone, Copy)]
-struct Parts<'a> {
+struct Components<'a> {
     rest: &'a [u8],
 }
 
-impl<'a> Parts<'a> {
-    fn new(text: &'a [u8]) -> Parts<'a>
+impl<'a> Components<'a> {
+    fn new(text: &'a [u8]) -> Components<'a>
         ensures { result.rest.now ≡ text.now }
     {
-        Parts { rest: text }
+        Components { rest: text }
     }
 }
 
-impl<'a> Iterator for Parts<'a> {
+impl<'a> Iterator for Components<'a> {
     type Item = Part<'a>;
 
     ghost use Rattle.std.specs.Iterator.{YieldsFirstBy, item_count};
@@ -103,7 +103,7 @@ impl<'a> Iterator for Parts<'a> {
     }
 }
 
-/// The components of a text, each with the separator behind it.
+/// The components of a text, each with the separator after it.
 ///
 /// # Errors
 /// `Memory` where there is no room for them.
@@ -111,7 +111,7 @@ pub fn parts_of(alloc: Global, text: &[u8]) -> Result<Vec<Part<'_>>, Memory>
     ensures { IfOk result (λ list. map seen_piece list.items ≡ (pieces text.now).rest) }
 {
     let mut list = Vec::new(alloc);
-    for part in Parts::new(text) {
+    for part in Components::new(text) {
         list.push(part)?;
     }
     Ok(list)

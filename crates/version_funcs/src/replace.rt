@@ -1,4 +1,4 @@
-ghost use Rattle.std.specs.Prelude.{◌≡◌, ◌⊎◌, ◌+◌, ◌%◌, Some, None, Err, map, length, IfOk, IfErr};
+ghost use Rattle.std.specs.Prelude.{◌≡◌, ◌⊎◌, ◌↔◌, ◌+◌, ◌%◌, Some, None, Err, map, length, is_some, IfOk, IfErr};
 ghost use Rattle.std.specs.Option.{option_map};
 ghost use Rattle.version_funcs.specs.Pieces.{joined, pieces};
 ghost use Rattle.version_funcs.specs.Range.{replaced, replaced_text, replacements, separator_after as separator_after_all, stays as stays_at};
@@ -39,6 +39,20 @@ fn read_pairs<'a>(
         rest = more;
     }
     Ok(Some(swaps))
+}
+
+// Whether each word that is to be a range is one.
+fn have_ranges(pairs: &[Bytes]) -> bool
+    ensures { result ≡ is_some (replacements pairs.now) }
+{
+    let mut rest = pairs;
+    while let [range, _, more @ ..] = rest {
+        if read_range(range.as_slice(), 0).is_none() {
+            return false;
+        }
+        rest = more;
+    }
+    true
 }
 
 // Whether a separator is one that stays: the first or the last one, while it is empty.
@@ -89,13 +103,17 @@ fn replaced<'a>(alloc: Global, swaps: &[Swap<'a>], v: &'a [u8]) -> Result<Bytes,
 /// each replaces what the one before it left.
 ///
 /// # Errors
-/// `BadRange` where a word that is to be a range is none; `Memory` where there is no room.
+/// `BadRange` exactly where a word that is to be a range is none; that takes no memory. `Memory` where there is no
+/// room.
 pub fn ver_rs(alloc: Global, pairs: &[Bytes], v: &[u8]) -> Result<Bytes, VerErr>
     requires { length pairs.now % 2 ≡ 0 }
     ensures ok { IfOk result (λ text. replaced_text pairs.now v.now ≡ Some text) }
-    ensures bad_range { result ≡ Err why.BadRange → replacements pairs.now ≡ None }
+    ensures bad_range { result ≡ Err why.BadRange ↔ replacements pairs.now ≡ None }
     ensures others { IfErr result (λ error. (error ≡ why.BadRange) ⊎ (error ≡ why.Memory)) }
 {
+    if !have_ranges(pairs) {
+        return Err(VerErr::BadRange);
+    }
     let Some(swaps) = read_pairs(alloc, pairs, v.len())? else {
         return Err(VerErr::BadRange);
     };

@@ -1,6 +1,6 @@
 use Rattle.std.proofs.Common.{sym, ◌∙◌}
 use Rattle.md5_cache.specs.Parts.{IsNoRecord}
-use Rattle.md5_cache.proofs.ReadLast.{no_line-no_last, no_md5-no_last, no_md5_behind-no_last, no_record-no_last}
+use Rattle.md5_cache.proofs.ReadLast.{no_line-no_last, no_md5-no_last, no_md5_after-no_last, no_record-no_last}
 use Rattle.md5_cache.proofs.parts.read_last.Goals as goal
 
 pub returns-in_default : goal.returns-in_default
@@ -22,5 +22,5 @@ returns-in_default-2 c =
 pub returns-in-None-read_md5 : goal.returns-in-None-read_md5
 returns-in-None-read_md5 c =
     let line = c.in-Some.line in
-    no_md5_behind-no_last c.args.text.now line.name.now line.value.now line.rest.now c.in-Some.ensures
+    no_md5_after-no_last c.args.text.now line.name.now line.value.now line.rest.now c.in-Some.ensures
     (c.is_text.ensures.0 c.if-not-is_text.false) c.in-None-read_md5.ensures

@@ -10,5 +10,5 @@ parts_of_spelled t v well spelled = let P : Text → Type 0 = λ u. PartsAre u v
 
 pub returns : goal.returns
 returns c v w well_v well_w spelled_v spelled_w =
-    let compared : c.then-4.result ≡ parts_order c.args.a.now c.args.b.now = simp (c.then-4.ensures, c.then-3.ensures, c.then-2.ensures, c.then.ensures, c.compare_numbers.ensures, c.compare_later.ensures, c.cmp.ensures, c.compare_suffixes.ensures, c.compare_revisions.ensures, c.parts_of-v.ensures.first, c.parts_of-v.ensures.later, c.parts_of-v.ensures.letter, c.parts_of-v.ensures.suffixes, c.parts_of-v.ensures.revision, c.parts_of-w.ensures.first, c.parts_of-w.ensures.later, c.parts_of-w.ensures.letter, c.parts_of-w.ensures.suffixes, c.parts_of-w.ensures.revision) in
+    let compared : c.then-4.result ≡ parts_order c.args.a.now c.args.b.now = simp (c.then-4.ensures, c.then-3.ensures, c.then-2.ensures, c.then.ensures, c.compare_numbers.ensures.texts, c.compare_later.ensures, c.cmp.ensures, c.compare_suffixes.ensures, c.compare_revisions.ensures, c.version_parts-v.ensures.first, c.version_parts-v.ensures.later, c.version_parts-v.ensures.letter, c.version_parts-v.ensures.suffixes, c.version_parts-v.ensures.revision, c.version_parts-w.ensures.first, c.version_parts-w.ensures.later, c.version_parts-w.ensures.letter, c.version_parts-w.ensures.suffixes, c.version_parts-w.ensures.revision) in
     compared ∙ parts_order-value c.args.a.now c.args.b.now v w well_v well_w (parts_of_spelled c.args.a.now v well_v spelled_v) (parts_of_spelled c.args.b.now w well_w spelled_w)

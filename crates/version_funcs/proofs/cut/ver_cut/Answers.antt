@@ -3,12 +3,12 @@ use Rattle.eb_bytes.specs.Text.{Text}
 use Rattle.version_funcs.specs.Pieces.{pieces}
 use Rattle.version_funcs.specs.Seen.{seen_range}
 use Rattle.version_funcs.proofs.Chosen.{cut_text-read, first-left_out, first-put}
-use Rattle.version_funcs.proofs.Splits.{first-behind_separators}
+use Rattle.version_funcs.proofs.Splits.{first-after_separators}
 use Rattle.version_funcs.proofs.cut.ver_cut.Goals as goal
 use Rattle.version_funcs.proofs.cut.ver_cut.Goals.{then-places-eq0+in_ok-extend, else-places-eq0}
 
 pub cut_rest-requires : goal.cut_rest-requires
-cut_rest-requires c = ap (λ (u : Text). (pieces u).first) c.split_run.ensures.rest ∙ first-behind_separators c.args.v.now
+cut_rest-requires c = ap (λ (u : Text). (pieces u).first) c.split_run.ensures.rest ∙ first-after_separators c.args.v.now
 
 pub returns-clause-ok : goal.returns-clause-ok
 returns-clause-ok c =
