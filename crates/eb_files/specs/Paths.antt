@@ -1,5 +1,5 @@
 -- Paths: lists of bytes, not empty and without byte 0.
-use Rattle.std.specs.Prelude.{ℕ, ◌-◌, Bool, ◌==◌, ◌&&◌, not, cond, take, length, Option, Some, None}
+use Rattle.std.specs.Prelude.{ℕ, ◌-◌, Bool, ◌==◌, ◌&&◌, not, if◌then◌else◌, take, length, Option, Some, None}
 use Rattle.std.specs.List.{list_any, suffix_len}
 use Rattle.eb_bytes.specs.Text.{Text, has_bytes}
 
@@ -19,7 +19,7 @@ without_slashes t = take (length t - suffix_len is_slash t) t
 
 -- the text where it is a path
 abbrev pub as_path : Text → Option Text
-as_path t = cond (is_path t) (Some t) None
+as_path t = if is_path t then Some t else None
 
 -- the path that a word names: the word without the `/` bytes at its end, where that is one
 abbrev pub path_of : Text → Option Text
