@@ -1,4 +1,4 @@
--- Files: a finite map from path to bytes, and what a call on a tree of files tells of them.
+-- Files: a finite map from path to bytes, and what a call on a tree of files says of them.
 use Rattle.std.specs.Prelude.{◌≡◌, ℕ, ◌≤◌, ◌<◌, Bool, true, false, length, Option, Some, None, Result, Ok, Err}
 use Rattle.std.specs.Ordering.{nat_cmp}
 use Rattle.std.specs.Cmp.Lexicographic.{slice_cmp}

@@ -1,4 +1,4 @@
--- What a sink holds, and what a put on it tells.
+-- What a sink holds, and what a put on it does.
 use Rattle.std.specs.Prelude.{◌≡◌, ℕ, Bool, true, false, List, ◌++◌, take, is_some, Option, Some, None, Result, Ok, Err}
 use Rattle.eb_bytes.specs.Text.{Text}
 use Rattle.eb_files.specs.declared.sink.SinkErr.{SinkErr}
