@@ -1,5 +1,5 @@
--- Files: a finite map from path to bytes, and what a call on a tree of files tells of them.
-use Rattle.std.specs.Prelude.{◌≡◌, ℕ, ◌≤◌, ◌<◌, length, Option, Some, None, Result, Ok, Err}
+-- Files: a finite map from path to bytes, and what a call on a tree of files says of them.
+use Rattle.std.specs.Prelude.{◌≡◌, ℕ, ◌≤◌, ◌<◌, Bool, true, false, length, Option, Some, None, Result, Ok, Err}
 use Rattle.std.specs.Ordering.{nat_cmp}
 use Rattle.std.specs.Cmp.Lexicographic.{slice_cmp}
 use Rattle.std.specs.FinMap as map
@@ -23,16 +23,16 @@ Reads (Err TooLarge) file limit = (bytes : Text) × (file ≡ Some bytes) × (li
 Reads (Err Failed) file limit = Unit {0}
 Reads (Err Memory) file limit = Unit {0}
 
--- the call answers that the tree failed
-abbrev pub IsFailed : {T : Type 0} → Result T TreeErr → Type 0
-IsFailed (Ok x) = ⊥
-IsFailed (Err Failed) = Unit {0}
-IsFailed (Err TooLarge) = ⊥
-IsFailed (Err Memory) = ⊥
+-- whether the call answers that the tree failed
+abbrev pub is_failed : {T : Type 0} → Result T TreeErr → Bool
+is_failed (Ok x) = false
+is_failed (Err Failed) = true
+is_failed (Err TooLarge) = false
+is_failed (Err Memory) = false
 
--- what holds where the call wanted memory, and what holds after each other answer
+-- what holds where the call ran out of memory, and what holds after each other answer
 abbrev pub IfMemory : {T : Type 0} → Result T TreeErr → Type 0 → Type 0 → Type 0
-IfMemory (Ok x) wanting answered = answered
-IfMemory (Err Failed) wanting answered = answered
-IfMemory (Err TooLarge) wanting answered = answered
-IfMemory (Err Memory) wanting answered = wanting
+IfMemory (Ok x) memory answered = answered
+IfMemory (Err Failed) memory answered = answered
+IfMemory (Err TooLarge) memory answered = answered
+IfMemory (Err Memory) memory answered = memory

@@ -1,5 +1,5 @@
 -- A tree of files in memory, whose calls fail where that was asked for.
-use Rattle.std.specs.Prelude.{ℕ, Bool, cond, nat_le, length, List, [], ◌∷◌, ◌++◌, Option, Some, None, Result, Ok, Err}
+use Rattle.std.specs.Prelude.{ℕ, Bool, nat_le, length, is_some, List, [], ◌∷◌, ◌++◌, Option, Some, None, Result, Ok, Err, if◌then◌else◌}
 use Rattle.std.specs.FinMap as map
 use Rattle.eb_bytes.specs.Text.{Text}
 use Rattle.eb_files.specs.declared.tree.TreeErr.{TreeErr}
@@ -8,7 +8,7 @@ use Rattle.eb_files.specs.declared.plan.Plan.{Plan}
 use Rattle.eb_files.specs.declared.call.Left.{Left}
 use Rattle.eb_files.specs.declared.call.Call.{Call}
 use Rattle.eb_files.specs.declared.call.CallKind.{CallKind}
-use Rattle.eb_files.specs.Causes.{faults_after}
+use Rattle.eb_files.specs.Causes.{counted}
 use Rattle.eb_files.specs.Files.{Files}
 use Rattle.eb_files.specs.Plans.{due, nearer}
 
@@ -22,7 +22,7 @@ pub record Kept : Type 0 where
 -- what a read of a file answers, where no failure comes
 abbrev pub read_answer : Option Text → ℕ → Result (Option Text) TreeErr
 read_answer None limit = Ok None
-read_answer (Some bytes) limit = cond (nat_le (length bytes) limit) (Ok (Some bytes)) (Err TooLarge)
+read_answer (Some bytes) limit = if nat_le (length bytes) limit then Ok (Some bytes) else Err TooLarge
 
 -- what it answers where a failure may be due
 abbrev pub due_answer : {T L : Type 0} → Option L → Result T TreeErr → Result T TreeErr
@@ -33,7 +33,7 @@ due_answer (Some left) answer = Err Failed
 abbrev pub after_call : Kept → CallKind → Text → Bool → Kept
 after_call t kind path ok = record t {
   plans = nearer t.plans;
-  faults = faults_after (due t.plans) t.faults;
+  faults = counted (is_some (due t.plans)) t.faults;
   calls = t.calls ++ record { kind = kind; path = path; ok = ok } ∷ [];
 }
 

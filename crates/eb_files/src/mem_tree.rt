@@ -1,12 +1,13 @@
 ghost use Rattle.std.specs.Prelude.{◌≡◌, ◌++◌, ◌∷◌, ◌≤◌, [], Some, OnOk, OnErr, IfOk, IfSome, is_ok, length};
 ghost use Rattle.std.specs.Option.{option_copied};
 ghost use Rattle.std.specs.FinMap as map;
-ghost use Rattle.eb_files.specs.Causes.{HasCause, IsUntouched};
-ghost use Rattle.eb_files.specs.Files.{Files, IfMemory, IsFailed, Reads};
+ghost use Rattle.eb_files.specs.Causes.{HasCause};
+ghost use Rattle.eb_files.specs.Files.{Files, IfMemory, Reads, is_failed};
 ghost use Rattle.eb_files.specs.Plans.{asked, has_plan};
 ghost use Rattle.eb_files.specs.Trees.{after_call, answer_of_read};
 
 use crate::call::{Call, CallKind, Left};
+use crate::faults::Faults;
 use crate::path::Path;
 use crate::plan;
 use crate::plan::Plan;
@@ -23,7 +24,7 @@ pub struct MemTree {
     alloc: Global,
     store: Store,
     plans: Vec<Plan<Left>>,
-    faults: u64,
+    faults: Faults,
     calls: Vec<Call>,
 }
 
@@ -48,7 +49,7 @@ impl MemTree {
             alloc,
             store: Store::new(alloc),
             plans: Vec::new(alloc),
-            faults: 0,
+            faults: Faults::new(),
             calls: Vec::new(alloc),
         }
     }
@@ -61,7 +62,7 @@ impl MemTree {
         ensures ok { OnOk result (self.new ≡ record self.old { files = map.insert self.old.files path.now bytes.now }) }
         ensures err { OnErr result (self.new ≡ self.old) }
     {
-        let path = path.copy()?;
+        let path = path.copy(self.alloc)?;
         let bytes = Bytes::from_slice(self.alloc, bytes)?;
         self.store.insert(path, bytes)
     }
@@ -77,10 +78,7 @@ impl MemTree {
     pub fn get(&self, path: &Path) -> Option<&[u8]>
         ensures { option_copied result ≡ map.get self.now.files path.now }
     {
-        match self.store.get(path) {
-            Some(bytes) => Some(bytes.as_slice()),
-            None => None,
-        }
+        Some(self.store.get(path)?.as_slice())
     }
 
     /// Asks that the call after the next `after` ones fails, and leaves `left`. Where several fall on one call, they
@@ -92,13 +90,11 @@ impl MemTree {
         ensures ok { OnOk result (self.new ≡ record self.old { plans = asked self.old.plans after left }) }
         ensures err { OnErr result (self.new ≡ self.old) }
     {
-        match self.plans.push(Plan { after, left }) {
-            Ok(()) => Ok(()),
-            Err(_) => Err(Memory),
-        }
+        self.plans.push(Plan { after, left })?;
+        Ok(())
     }
 
-    /// The calls so far, in order, without those that wanted memory.
+    /// The calls so far, in order, without those that ran out of memory.
     pub fn calls(&self) -> &[Call]
         ensures { result.now ≡ self.now.calls }
     {
@@ -108,15 +104,12 @@ impl MemTree {
     // Records a call, and brings the failures to come one call nearer.
     fn note(&mut self, kind: CallKind, path: &Path, ok: bool) -> Result<(), Memory>
         ensures ok { OnOk result (self.new ≡ after_call self.old kind path.now ok) }
-        ensures later { self.old.faults ≤ self.new.faults }
         ensures err { OnErr result (self.new ≡ self.old) }
     {
-        let path = path.copy()?;
-        if self.calls.push(Call { kind, path, ok }).is_err() {
-            return Err(Memory);
-        }
+        let path = path.copy(self.alloc)?;
+        self.calls.push(Call { kind, path, ok })?;
         if plan::due(&self.plans).is_some() {
-            self.faults = self.faults.saturating_add(1);
+            self.faults.raise();
         }
         plan::advance(&mut self.plans);
         Ok(())
@@ -149,106 +142,14 @@ impl Tree for MemTree {
         ensures same { Some self.new.files ≡ Some self.old.files }
         ensures means { (f : Files) → Some self.old.files ≡ Some f → Reads result (map.get f path.now) limit }
         ensures bound { IfOk result (λ o. IfSome o (λ bytes. length bytes ≤ limit)) }
-        ensures cause { HasCause (IsFailed result) self.old.faults self.new.faults (has_plan self.old.plans) (has_plan self.new.plans) }
-        ensures memory { IfMemory result (IsUntouched self.old.faults self.new.faults (has_plan self.old.plans) (has_plan self.new.plans)) (Unit {0}) }
+        ensures cause { HasCause (is_failed result) self.old.faults self.new.faults (has_plan self.old.plans) (has_plan self.new.plans) }
+        ensures memory { IfMemory result (has_plan self.new.plans ≡ has_plan self.old.plans) (Unit {0}) }
     {
         let answer = self.look(alloc, path, limit);
         if matches!(&answer, Err(TreeErr::Memory)) {
             return answer;
         }
-        match self.note(CallKind::Read, path, answer.is_ok()) {
-            Ok(()) => answer,
-            Err(Memory) => Err(TreeErr::Memory),
-        }
-    }
-}
-
-#[cfg(test)]
-mod tests {
-    use super::*;
-    use std::test::Fail;
-
-    fn path(alloc: Global, word: &[u8]) -> Result<Path, Fail> {
-        Ok(Path::read(alloc, word)?.ok_or("no path")?)
-    }
-
-    // A tree with one file, whose calls fail after so many others each.
-    fn tree_with(
-        alloc: Global,
-        path: &Path,
-        bytes: &[u8],
-        asked: &[u64],
-    ) -> Result<MemTree, Memory> {
-        let mut tree = MemTree::new(alloc);
-        tree.put(path, bytes)?;
-        for after in asked {
-            tree.fail(*after, Left::Old)?;
-        }
-        Ok(tree)
-    }
-
-    // The error of a read of at most three bytes.
-    fn read_error(alloc: Global, tree: &mut MemTree, path: &Path) -> Option<TreeErr> {
-        tree.read(alloc, path, 3).err()
-    }
-
-    // Whether a read of at most three bytes gives these, or none.
-    fn reads(alloc: Global, tree: &mut MemTree, path: &Path, want: Option<&[u8]>) -> bool {
-        match tree.read(alloc, path, 3) {
-            Ok(Some(bytes)) => want == Some(bytes.as_slice()),
-            Ok(None) => want.is_none(),
-            Err(_) => false,
-        }
-    }
-
-    // Whether the calls were reads of this path that answered so.
-    fn recorded(tree: &MemTree, path: &Path, want: &[bool]) -> bool {
-        let calls = tree.calls();
-        calls.len() == want.len()
-            && calls.iter().zip(want).all(|(call, ok)| call.kind == CallKind::Read
-                && call.path == *path
-                && call.ok == *ok)
-    }
-
-    #[test]
-    fn reads_files(rt: HostRuntime) -> Result<(), Fail> {
-        let alloc = rt.alloc();
-        let file = path(alloc, b"/r/x")?;
-        for (bytes, want) in [("abc", None), ("abcd", Some(TreeErr::TooLarge))] {
-            let mut tree = tree_with(alloc, &file, bytes.as_bytes(), &[])?;
-            assert_eq!(rt; read_error(alloc, &mut tree, &file), want, "at {bytes:?}");
-        }
-        let mut tree = tree_with(alloc, &file, b"abc", &[])?;
-        assert!(rt; reads(alloc, &mut tree, &file, Some(b"abc")));
-        assert_eq!(rt; tree.get(&file), Some(b"abc".as_slice()));
-        tree.delete(&file);
-        assert!(rt; reads(alloc, &mut tree, &file, None));
-        Ok(())
-    }
-
-    #[test]
-    fn fails_where_asked(rt: HostRuntime) -> Result<(), Fail> {
-        let alloc = rt.alloc();
-        let rows = [
-            ([].as_slice(), [true, true, true].as_slice()),
-            ([0].as_slice(), [false, true, true].as_slice()),
-            ([1].as_slice(), [true, false, true].as_slice()),
-            ([0, 0].as_slice(), [false, true, true].as_slice()),
-            ([1, 0].as_slice(), [false, false, true].as_slice()),
-        ];
-        let file = path(alloc, b"/r/x")?;
-        for (asked, want) in rows {
-            let mut tree = tree_with(alloc, &file, b"abc", asked)?;
-            for ok in want {
-                let expected = if *ok { None } else { Some(TreeErr::Failed) };
-                assert_eq!(rt;
-                    read_error(alloc, &mut tree, &file),
-                    expected,
-                    "asked {asked:?}"
-                );
-            }
-            assert!(rt; recorded(&tree, &file, want), "asked {asked:?}");
-        }
-        Ok(())
+        self.note(CallKind::Read, path, answer.is_ok())?;
+        answer
     }
 }

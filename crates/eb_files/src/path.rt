@@ -4,14 +4,12 @@ ghost use Rattle.eb_files.specs.Paths.{is_path, path_of, without_slashes};
 
 use eb_bytes::{Bytes, Memory};
 use std::alloc::Global;
-use std::cmp::Ordering;
 use std::marker::Model;
 
-/// Where a file is: bytes, at least one, and none of them 0. Contracts see it as the list of these bytes; paths are
-/// ordered by it.
-#[derive(Debug, Drop)]
+/// A file's path: at least one byte, and none of them 0. Contracts see it as the list of these bytes; paths are
+/// ordered byte by byte.
+#[derive(Debug, Drop, PartialEq, Eq, PartialOrd, Ord)]
 pub struct Path {
-    alloc: Global,
     bytes: Bytes,
 }
 
@@ -25,6 +23,8 @@ impl Model for Path {
     ghost coded = { coded_list coded_ℕ };
 
     ghost view = { λ p. p.bytes };
+
+    ghost inverse = { λ bytes. record { bytes = bytes } };
 
     ghost invariant = { λ p. IsTrue (is_path p.bytes) };
 }
@@ -43,24 +43,21 @@ impl Path {
             return Ok(None);
         }
         let bytes = Bytes::from_slice(alloc, rest)?;
-        Ok(Some(Path { alloc, bytes }))
+        Ok(Some(Path { bytes }))
     }
 
     /// This path, a `/` and the part.
     ///
     /// # Errors
     /// `Memory` where there is no room for the bytes.
-    pub fn join(&self, part: &[u8]) -> Result<Path, Memory>
+    pub fn join(&self, alloc: Global, part: &[u8]) -> Result<Path, Memory>
         requires { IsTrue (is_path part.now) }
         ensures { IfOk result (λ path. path ≡ self.now ++ 47 ∷ part.now) }
     {
-        let mut bytes = Bytes::from_slice(self.alloc, self.bytes.as_slice())?;
+        let mut bytes = Bytes::from_slice(alloc, self.bytes.as_slice())?;
         bytes.extend(b"/")?;
         bytes.extend(part)?;
-        Ok(Path {
-            alloc: self.alloc,
-            bytes,
-        })
+        Ok(Path { bytes })
     }
 
     /// The bytes, at least one and none of them 0.
@@ -75,14 +72,11 @@ impl Path {
     ///
     /// # Errors
     /// `Memory` where there is no room for the bytes.
-    pub fn copy(&self) -> Result<Path, Memory>
+    pub fn copy(&self, alloc: Global) -> Result<Path, Memory>
         ensures { IfOk result (λ path. path ≡ self.now) }
     {
-        let bytes = Bytes::from_slice(self.alloc, self.bytes.as_slice())?;
-        Ok(Path {
-            alloc: self.alloc,
-            bytes,
-        })
+        let bytes = Bytes::from_slice(alloc, self.bytes.as_slice())?;
+        Ok(Path { bytes })
     }
 }
 
@@ -102,89 +96,4 @@ fn names_a_file(bytes: &[u8]) -> bool
     ensures { result ≡ is_path bytes.now }
 {
     !bytes.is_empty() && !bytes.contains(&0)
-}
-
-impl PartialEq for Path {
-    ghost use Rattle.std.specs.Prelude.{nat_eq};
-    ghost use Rattle.std.specs.Cmp.Lexicographic.{pointwise};
-    ghost use Rattle.std.proofs.Common.{rules};
-    ghost use Rattle.std.specs.Cmp.Rules.{comparing};
-
-    ghost eq = { pointwise nat_eq };
-
-    ghost laws = { Prim.search (comparing, rules) };
-
-    fn eq(&self, other: &Path) -> bool {
-        self.bytes.as_slice() == other.bytes.as_slice()
-    }
-}
-
-impl Eq for Path {
-    ghost use Rattle.std.proofs.Common.{rules};
-    ghost use Rattle.std.specs.Cmp.Rules.{comparing};
-
-    ghost laws = { Prim.search (comparing, rules) };
-}
-
-impl Ord for Path {
-    ghost use Rattle.std.specs.Ordering.{nat_cmp};
-    ghost use Rattle.std.specs.Cmp.Lexicographic.{slice_cmp};
-    ghost use Rattle.std.proofs.Common.{rules};
-    ghost use Rattle.std.specs.Cmp.Rules.{comparing};
-
-    ghost cmp = { slice_cmp nat_cmp };
-
-    ghost total = { Prim.search (comparing, rules) };
-
-    ghost matches_partial_cmp = { Prim.search (comparing, rules) };
-
-    ghost matches_eq = { Prim.search (comparing, rules) };
-
-    fn cmp(&self, other: &Path) -> Ordering {
-        self.bytes.as_slice().cmp(other.bytes.as_slice())
-    }
-}
-
-impl PartialOrd for Path {
-    ghost use Rattle.std.specs.Ordering.{nat_cmp, as_partial_cmp};
-    ghost use Rattle.std.specs.Cmp.Lexicographic.{slice_cmp};
-    ghost use Rattle.std.proofs.Common.{rules};
-    ghost use Rattle.std.specs.Cmp.{partial_order_from_own_ties};
-    ghost use Rattle.std.specs.Cmp.Rules.{comparing};
-
-    ghost partial_cmp = { as_partial_cmp (slice_cmp nat_cmp) };
-
-    ghost laws = { partial_order_from_own_ties (Prim.search (comparing, rules)) (Prim.search (comparing, rules)) };
-
-    fn partial_cmp(&self, other: &Path) -> Option<Ordering> {
-        Some(self.cmp(other))
-    }
-}
-
-#[cfg(test)]
-mod tests {
-    use super::*;
-    use std::test::Fail;
-
-    #[test]
-    fn reads_words_and_joins(rt: HostRuntime) -> Result<(), Fail> {
-        let alloc = rt.alloc();
-        let rows = [
-            ("/r/", Some("/r")),
-            ("a//", Some("a")),
-            ("/a/b", Some("/a/b")),
-            ("///", None),
-            ("", None),
-            ("a\0b", None),
-        ];
-        for (word, want) in rows {
-            let path = Path::read(alloc, word.as_bytes())?;
-            let got = path.as_ref().map(|path| path.as_slice());
-            assert_eq!(rt; got, want.map(|text| text.as_bytes()), "at {word:?}");
-        }
-        let root = Path::read(alloc, b"/r")?.ok_or("no path")?;
-        assert_eq!(rt; root.join(b"x")?.as_slice(), b"/r/x".as_slice());
-        assert_eq!(rt; root.copy()?, root);
-        Ok(())
-    }
 }

@@ -47,10 +47,8 @@ impl Store {
         ensures ok { OnOk result (self.new ≡ map.insert self.old path bytes) }
         ensures err { OnErr result (self.new ≡ self.old) }
     {
-        match self.tree.insert(path, bytes) {
-            Ok(_) => Ok(()),
-            Err(_) => Err(Memory),
-        }
+        self.tree.insert(path, bytes)?;
+        Ok(())
     }
 
     pub(crate) fn remove(&mut self, path: &Path)
@@ -70,10 +68,7 @@ impl Store {
         match self.get(path) {
             None => Ok(None),
             Some(file) if file.len() > limit => Err(TreeErr::TooLarge),
-            Some(file) => match Bytes::from_slice(alloc, file.as_slice()) {
-                Ok(bytes) => Ok(Some(bytes)),
-                Err(Memory) => Err(TreeErr::Memory),
-            },
+            Some(file) => Ok(Some(Bytes::from_slice(alloc, file.as_slice())?)),
         }
     }
 }

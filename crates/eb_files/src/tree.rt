@@ -1,10 +1,10 @@
 ghost use Rattle.std.specs.Prelude.{◌≡◌, ◌≤◌, ℕ, Bool, Option, Some, IfOk, IfSome, length};
 ghost use Rattle.std.specs.FinMap as map;
-ghost use Rattle.eb_files.specs.Causes.{HasCause, IsUntouched};
-ghost use Rattle.eb_files.specs.Files.{Files, IfMemory, IsFailed, Reads};
+ghost use Rattle.eb_files.specs.Causes.{HasCause};
+ghost use Rattle.eb_files.specs.Files.{Files, IfMemory, Reads, is_failed};
 
 use crate::path::Path;
-use eb_bytes::Bytes;
+use eb_bytes::{Bytes, Memory};
 use std::alloc::Global;
 use thiserror::Error;
 
@@ -22,12 +22,23 @@ pub enum TreeErr {
     Memory,
 }
 
+impl From<Memory> for TreeErr {
+    ghost use Rattle.std.specs.Prelude.{◌≡◌};
+    ghost use Rattle.eb_files.specs.declared.tree.TreeErr.TheVariants as why;
+
+    ghost from_gives = { λ _ error. error ≡ why.Memory };
+
+    fn from(_error: Memory) -> TreeErr {
+        TreeErr::Memory
+    }
+}
+
 /// A tree of files.
 pub trait Tree {
-    /// Its files, where it tells them.
+    /// Its files, where they are known.
     ghost files: { Self → Option Files };
 
-    /// How many failures came; it never falls.
+    /// How many failures came: a call that fails raises it by one, and every other call leaves it.
     ghost faults: { Self → ℕ };
 
     /// Whether a failure may still come.
@@ -36,32 +47,12 @@ pub trait Tree {
     /// A file's bytes, of which there are at most `limit`; none where there is no such file. No file changes.
     ///
     /// # Errors
-    /// `TooLarge` where the file holds more than `limit` bytes, `Failed` only where the faults rose in this call,
-    /// `Memory` where there is no room for the answer; the faults stay then.
+    /// `TooLarge` where the file holds more than `limit` bytes, `Failed` where the files could not be reached, `Memory`
+    /// where there is no room for the answer. Only `Failed` is a fault.
     fn read(&mut self, alloc: Global, path: &Path, limit: usize) -> Result<Option<Bytes>, TreeErr>
         ensures same { files self.new ≡ files self.old }
         ensures means { (f : Files) → files self.old ≡ Some f → Reads result (map.get f path.now) limit }
         ensures bound { IfOk result (λ o. IfSome o (λ bytes. length bytes ≤ limit)) }
-        ensures cause { HasCause (IsFailed result) (faults self.old) (faults self.new) (may_fail self.old) (may_fail self.new) }
-        ensures memory { IfMemory result (IsUntouched (faults self.old) (faults self.new) (may_fail self.old) (may_fail self.new)) (Unit {0}) };
-}
-
-#[cfg(test)]
-mod tests {
-    use super::*;
-    use std::test::Fail;
-
-    #[test]
-    fn tells_errors(rt: HostRuntime) -> Result<(), Fail> {
-        let rows = [
-            (TreeErr::Failed, "the files could not be reached"),
-            (TreeErr::TooLarge, "the file is too large"),
-            (TreeErr::Memory, "out of memory"),
-        ];
-        for (error, want) in rows {
-            let text = format!(in rt.alloc(); "{error}")?;
-            assert_eq!(rt; text.as_str(), want);
-        }
-        Ok(())
-    }
+        ensures cause { HasCause (is_failed result) (faults self.old) (faults self.new) (may_fail self.old) (may_fail self.new) }
+        ensures memory { IfMemory result (may_fail self.new ≡ may_fail self.old) (Unit {0}) };
 }

@@ -4,7 +4,7 @@ use Rattle.std.specs.Prelude.{codes}
 use Rattle.eb_bytes.specs.Text.{Text}
 use Rattle.egencache.specs.Meaning.{sourced}
 
--- `EAPI=7`, a blank and `IUSE="x"`, and `SLOT=0/2`, with no newline behind it
+-- `EAPI=7`, a blank and `IUSE="x"`, and `SLOT=0/2`, with no newline after it
 abbrev plain : Text
 plain = codes "EAPI=7" ++ 10 ∷ codes " IUSE=" ++ 34 ∷ 120 ∷ 34 ∷ 10 ∷ codes "SLOT=0/2"
 

@@ -5,3 +5,4 @@ pub mod PlainForms
 pub mod PlainTexts
 pub mod PlainValues
 pub mod Puts
+pub mod SystemReads

@@ -6,8 +6,9 @@ use Rattle.std.proofs.lemmas.Bool.{eqb-true}
 use Rattle.std.proofs.lemmas.List.{take-append-drop}
 use Rattle.std.proofs.lemmas.List.Sums.{take_while-cons}
 use Rattle.std.proofs.lemmas.Option.{cond_some}
-use Rattle.eb_bytes.specs.Text.{Text, is_blank}
-use Rattle.egencache.specs.Plain.{Nothing, Assigns, Other, after_while, assigned_line, bare_value, before_blanks, begins_name, closed_value, is_bare, is_name, is_name_byte, is_quotable, is_zero, line_from, plain_line, spelled_value, with_value}
+use Rattle.eb_bytes.specs.Class.{is_blank, is_name, is_name_byte, is_name_start, is_nul}
+use Rattle.eb_bytes.specs.Text.{Text}
+use Rattle.egencache.specs.Plain.{Nothing, Assigns, Other, after_while, assigned_line, bare_value, before_blanks, closed_value, is_bare, is_quotable, line_from, plain_line, spelled_value, with_value}
 use Rattle.egencache.specs.PlainForm.{IsAssignment, IsNothing, IsSpelling}
 use Rattle.egencache.proofs.Conditions.{both_true}
 
@@ -152,7 +153,7 @@ spelled_value-spelled : (spelled value trail : Text) → IsSpelling spelled valu
 spelled_value-spelled spelled value trail (inl bare) blank = ap (λ (t : Text). spelled_value (t ++ trail)) bare.shape ∙ spelled_value-bare value trail bare.bytes blank
 spelled_value-spelled spelled value trail (inr quoted) blank = ap (λ (t : Text). spelled_value (t ++ trail)) quoted.shape ∙ spelled_value-quoted value trail quoted.bytes blank
 
--- a text as the spelling of a value, with blanks behind it
+-- a text as the spelling of a value, with blanks after it
 record Spelling (t value : Text) : Type 0 where
   spelled : Text
   trail : Text
@@ -171,7 +172,7 @@ bare_value-spelling t v h =
       blank = found.0;
     }
 
--- the closing quote, with blanks behind it
+-- the closing quote, with blanks after it
 record Closing (value rest v : Text) : Type 0 where
   trail : Text
   shape : rest ≡ 34 ∷ trail
@@ -212,15 +213,22 @@ spelled_value-spelling (b ∷ t) v h = on (b == 34) refl h
 -- ---- lines that assign
 
 -- a name begins with no blank, no tab and no number sign
+-- a name holds only bytes of names
+are_name_bytes : (name : Text) → is_name name ≡ true → list_all is_name_byte name ≡ true
+are_name_bytes [] named = absurd (cc)
+are_name_bytes (b ∷ name) named =
+    let both = both_true (is_name_start b) (list_all is_name_byte name) named in
+    rw both.0 both.1
+
 stops-name : (name rest : Text) → is_name name ≡ true → stops is_blank (name ++ rest) ≡ true
 stops-name [] rest named = absurd (cc)
-stops-name (b ∷ name) rest named = ap not (is_no_blank begins_name refl refl b named)
+stops-name (b ∷ name) rest named = ap not (is_no_blank is_name_start refl refl b (both_true (is_name_start b) (list_all is_name_byte name) named).0)
 
 line_from-name : (name rest : Text) → is_name name ≡ true → line_from (name ++ rest) ≡ assigned_line (take_while is_name_byte (name ++ rest)) (after_while is_name_byte (name ++ rest))
 line_from-name [] rest named = absurd (cc)
 line_from-name (b ∷ name) rest named =
     let t : Text = name ++ rest in
-    ap (λ (v : Bool). cond v (cond (list_any is_zero t) Other Nothing) (assigned_line (take_while is_name_byte (b ∷ t)) (after_while is_name_byte (b ∷ t)))) (is_no begins_name 35 b refl named)
+    ap (λ (v : Bool). cond v (cond (list_any is_nul t) Other Nothing) (assigned_line (take_while is_name_byte (b ∷ t)) (after_while is_name_byte (b ∷ t)))) (is_no is_name_start 35 b refl (both_true (is_name_start b) (list_all is_name_byte name) named).0)
 
 assigned_line-name : (name spelled value : Text) → is_name name ≡ true → spelled_value spelled ≡ Some value → assigned_line name (61 ∷ spelled) ≡ Assigns name value
 assigned_line-name name spelled value named found = ap (λ (v : Bool). cond v (with_value name (spelled_value spelled)) Other) named ∙ ap (with_value name) found
@@ -228,15 +236,15 @@ assigned_line-name name spelled value named found = ap (λ (v : Bool). cond v (w
 pub plain_line-assignment : (line name value : Text) → IsAssignment line name value → plain_line line ≡ Assigns name value
 plain_line-assignment line name value a =
     let rest : Text = 61 ∷ (a.spelled ++ a.trail) in
-    let lead : Cut is_blank line a.lead (name ++ rest) = record { whole = a.shape; run = a.blank_lead.bytes; stop = stops-name name rest a.named.first } in
-    let word : Cut is_name_byte (name ++ rest) name rest = record { whole = refl; run = a.named.bytes; stop = refl } in
+    let lead : Cut is_blank line a.lead (name ++ rest) = record { whole = a.shape; run = a.blank_lead.bytes; stop = stops-name name rest a.named } in
+    let word : Cut is_name_byte (name ++ rest) name rest = record { whole = refl; run = are_name_bytes name a.named; stop = refl } in
     ap line_from (after_while-cut is_blank line a.lead (name ++ rest) lead)
-    ∙ line_from-name name rest a.named.first
+    ∙ line_from-name name rest a.named
     ∙ ap (λ (front : Text). assigned_line front (after_while is_name_byte (name ++ rest))) (take_while-cut is_name_byte (name ++ rest) name rest word)
     ∙ ap (assigned_line name) (after_while-cut is_name_byte (name ++ rest) name rest word)
-    ∙ assigned_line-name name (a.spelled ++ a.trail) value a.named.first (spelled_value-spelled a.spelled value a.trail a.spells a.blank_trail.bytes)
+    ∙ assigned_line-name name (a.spelled ++ a.trail) value a.named (spelled_value-spelled a.spelled value a.trail a.spells a.blank_trail.bytes)
 
--- the equals sign and the value behind a name
+-- the equals sign and the value after a name
 record Equals (run rest name value : Text) : Type 0 where
   spelled : Text
   shape : rest ≡ 61 ∷ spelled
@@ -272,8 +280,8 @@ line_from-equals : (body name value : Text) → line_from body ≡ Assigns name 
 line_from-equals [] name value h = absurd (cc)
 line_from-equals (b ∷ t) name value h = on (b == 35) h
   where
-    on : (w : Bool) → cond w (cond (list_any is_zero t) Other Nothing) (assigned_line (take_while is_name_byte (b ∷ t)) (after_while is_name_byte (b ∷ t))) ≡ Assigns name value → Equals (take_while is_name_byte (b ∷ t)) (after_while is_name_byte (b ∷ t)) name value
-    on true h = absurd (comment_assigns_not (list_any is_zero t) name value h)
+    on : (w : Bool) → cond w (cond (list_any is_nul t) Other Nothing) (assigned_line (take_while is_name_byte (b ∷ t)) (after_while is_name_byte (b ∷ t))) ≡ Assigns name value → Equals (take_while is_name_byte (b ∷ t)) (after_while is_name_byte (b ∷ t)) name value
+    on true h = absurd (comment_assigns_not (list_any is_nul t) name value h)
     on false h = assigned_line-equals (take_while is_name_byte (b ∷ t)) (after_while is_name_byte (b ∷ t)) name value h
 
 pub plain_line-assigns : (line name value : Text) → plain_line line ≡ Assigns name value → IsAssignment line name value
@@ -293,7 +301,7 @@ plain_line-assigns line name value h =
       trail = spelling.trail;
       shape = (cut is_blank line).whole ∙ ap (λ (back : Text). take_while is_blank line ++ back) whole;
       blank_lead = record { bytes = (cut is_blank line).run };
-      named = record { first = ap is_name (sym equals.same) ∙ equals.named; bytes = ap (list_all is_name_byte) (sym equals.same) ∙ (cut is_name_byte body).run };
+      named = ap is_name (sym equals.same) ∙ equals.named;
       spells = spelling.spells;
       blank_trail = record { bytes = spelling.blank };
     }
@@ -322,7 +330,7 @@ assigned_line-says run (b ∷ spelled) h = on (b == 61 && is_name run) h
 record Sign (body : Text) : Type 0 where
   comment : Text
   shape : body ≡ 35 ∷ comment
-  no_zero : list_any is_zero comment ≡ false
+  no_zero : list_any is_nul comment ≡ false
 
 zero_free : (w : Bool) → cond w Other Nothing ≡ Nothing → w ≡ false
 zero_free true h = absurd (cc)
@@ -332,8 +340,8 @@ line_from-nothing : (body : Text) → line_from body ≡ Nothing → (body ≡ [
 line_from-nothing [] h = inl refl
 line_from-nothing (b ∷ t) h = on (b == 35) refl h
   where
-    on : (w : Bool) → (b == 35) ≡ w → cond w (cond (list_any is_zero t) Other Nothing) (assigned_line (take_while is_name_byte (b ∷ t)) (after_while is_name_byte (b ∷ t))) ≡ Nothing → ((b ∷ t) ≡ []) ⊎ Sign (b ∷ t)
-    on true e h = inr (record { comment = t; shape = ap (λ (b : ℕ). b ∷ t) (eqb-true b 35 e); no_zero = zero_free (list_any is_zero t) h })
+    on : (w : Bool) → (b == 35) ≡ w → cond w (cond (list_any is_nul t) Other Nothing) (assigned_line (take_while is_name_byte (b ∷ t)) (after_while is_name_byte (b ∷ t))) ≡ Nothing → ((b ∷ t) ≡ []) ⊎ Sign (b ∷ t)
+    on true e h = inr (record { comment = t; shape = ap (λ (b : ℕ). b ∷ t) (eqb-true b 35 e); no_zero = zero_free (list_any is_nul t) h })
     on false e h = absurd (assigned_line-says (take_while is_name_byte (b ∷ t)) (after_while is_name_byte (b ∷ t)) h)
 
 pub plain_line-says_nothing : (line : Text) → plain_line line ≡ Nothing → IsNothing line

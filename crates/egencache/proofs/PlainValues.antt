@@ -3,7 +3,8 @@ use Rattle.std.proofs.Common.{◌≡◌, ◌≢◌, ℕ, ◌+◌, ◌<◌, Bool,
 use Rattle.std.specs.List.{AllByRecursion, list_all, list_any, prefix_len, take_while}
 use Rattle.std.proofs.lemmas.Option.{cond_some}
 use Rattle.std.proofs.lemmas.List.Elements.{All-cons}
-use Rattle.eb_bytes.specs.Text.{Text, has_bytes, is_blank, norm}
+use Rattle.eb_bytes.specs.Class.{is_blank, is_name_byte, is_nul}
+use Rattle.eb_bytes.specs.Text.{Text, has_bytes, norm}
 use Rattle.md5_cache.specs.Entry.{HasNoZero, named_eapi}
 use Rattle.eapi_tables.specs.declared.eapi.Eapi.{Eapi}
 use Rattle.eapi_tables.specs.declared.eapi.Eapi.TheVariants as eapi
@@ -13,7 +14,7 @@ use Rattle.eapi_tables.specs.Eapi.{eapi_number, eapi_text}
 use Rattle.eapi_tables.specs.Key.{key_name}
 use Rattle.egencache.specs.Assignments.{Assigned, assignments_of, is_text, later_or, text_of, value_if, variable, with_line}
 use Rattle.egencache.specs.Meaning.{HasZeroFreeValue, final_value, has_implicit_rdepend, rdepend_of}
-use Rattle.egencache.specs.Plain.{PlainLine, Nothing, Assigns, Other, after_while, assigned_line, bare_value, before_blanks, closed_value, is_bare, is_name, is_name_byte, is_quotable, is_zero, line_from, plain_line, spelled_value, with_value}
+use Rattle.egencache.specs.Plain.{PlainLine, Nothing, Assigns, Other, after_while, assigned_line, bare_value, before_blanks, closed_value, is_bare, is_quotable, line_from, plain_line, spelled_value, with_value}
 
 -- ---- byte 0
 
@@ -76,7 +77,7 @@ assigned_line-free name (b ∷ spelled) = either_line (b == 61 && is_name name) 
 line_from-free : (t : Text) → HasFreeValue (line_from t)
 line_from-free [] = tt
 line_from-free (b ∷ t) =
-    either_line (b == 35) (cond (list_any is_zero t) Other Nothing) (assigned_line (take_while is_name_byte (b ∷ t)) (after_while is_name_byte (b ∷ t))) (either_line (list_any is_zero t) Other Nothing (tt {0}) (tt {0})) (assigned_line-free (take_while is_name_byte (b ∷ t)) (after_while is_name_byte (b ∷ t)))
+    either_line (b == 35) (cond (list_any is_nul t) Other Nothing) (assigned_line (take_while is_name_byte (b ∷ t)) (after_while is_name_byte (b ∷ t))) (either_line (list_any is_nul t) Other Nothing (tt {0}) (tt {0})) (assigned_line-free (take_while is_name_byte (b ∷ t)) (after_while is_name_byte (b ∷ t)))
 
 with_line-free : (line : PlainLine) (rest : List Assigned) → HasFreeValue line → AllByRecursion HasZeroFreeValue rest → AllByRecursion HasZeroFreeValue (with_line line rest)
 with_line-free Nothing rest one others = others

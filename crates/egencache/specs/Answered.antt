@@ -1,6 +1,7 @@
 -- What the program's calls tell of its answer.
-use Rattle.std.specs.Prelude.{◌≡◌, ℕ, ◌+◌, ◌≤◌, ◌++◌, take, ◌⊎◌, Option, Some, Result, Ok, Err}
+use Rattle.std.specs.Prelude.{◌≡◌, ℕ, ◌+◌, ◌≤◌, Bool, true, false, not, ◌&&◌, ◌++◌, take, ◌⊎◌, Option, Some, Result, Ok, Err}
 use Rattle.eb_bytes.specs.Text.{Text}
+use Rattle.eb_files.specs.Causes.{HasCause}
 use Rattle.egencache.specs.declared.report.Report.{Report}
 use Rattle.egencache.specs.declared.report.ReportErr.{ReportErr}
 use Rattle.egencache.specs.declared.report.ReportErr.TheVariants as why
@@ -14,10 +15,26 @@ TellsReport (Ok report) answer before after = (report.status ≡ answer.status) 
 TellsReport (Err why.FileFault) answer before after = after ≡ before
 TellsReport (Err why.Memory) answer before after = (before ≤ after) × (after ≤ before + answer.steps)
 
-abbrev pub IsFileFault : {T : Type 0} → Result T ReportErr → Type 0
-IsFileFault (Ok report) = ⊥
-IsFileFault (Err why.FileFault) = Unit {0}
-IsFileFault (Err why.Memory) = ⊥
+-- whether there is no report since a file could not be read
+abbrev pub is_unread : {T : Type 0} → Result T ReportErr → Bool
+is_unread (Ok report) = false
+is_unread (Err why.FileFault) = true
+is_unread (Err why.Memory) = false
+
+abbrev pub is_file_fault : Status → Bool
+is_file_fault FileFault = true
+is_file_fault status = false
+
+abbrev pub is_report_fault : Status → Bool
+is_report_fault ReportFault = true
+is_report_fault status = false
+
+-- what the program does to the sink's count of faults: the sink failed exactly where the program ends with
+-- ReportFault, or it may have failed too after a file could not be read
+pub record SinkCause (status : Status) (before after : ℕ) (may then : Bool) : Type 0 where
+  pub failed : Bool
+  pub cause : HasCause failed before after may then
+  pub ends : is_report_fault status ≡ (failed && not (is_file_fault status))
 
 -- some first bytes of the text were put
 abbrev pub PutsPrefix : Text → Text → Option Text → Type 0
@@ -35,7 +52,7 @@ Answers status answer before after = (status ≡ answer.status) × (after ≡ be
 abbrev pub PutsAllOrNothing : Text → Text → Option Text → Type 0
 PutsAllOrNothing text held after = (after ≡ Some (held ++ text)) ⊎ (after ≡ Some held)
 
--- how the program ends where the words have no form
+-- how the program ends where the arguments are invalid
 abbrev pub EndsUsage : Status → Type 0
 EndsUsage Usage = Unit {0}
 EndsUsage ReportFault = Unit {0}

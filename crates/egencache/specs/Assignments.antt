@@ -28,7 +28,7 @@ pub record Assigned : Type 0 where
   pub name : Text
   pub value : Text
 
--- the assignment of a line, if it is one, and those of the lines behind it
+-- the assignment of a line, if it is one, and those of the lines after it
 abbrev pub with_line : PlainLine → List Assigned → List Assigned
 with_line Nothing rest = rest
 with_line (Assigns name value) rest = record { name = name; value = value } ∷ rest

@@ -8,8 +8,8 @@ pub mod Placed
 pub mod Plain
 pub mod PlainForm
 pub mod PlainText
-pub mod ReadsAll
 pub mod Report
 pub mod Request
 pub mod Seen
+pub mod System
 pub mod Tells

@@ -1,47 +1,26 @@
 -- Lines of an ebuild that need no shell: blank lines, comments, and assignments of plain values.
-use Rattle.std.specs.Prelude.{ℕ, Bool, false, ◌==◌, ◌&&◌, ◌||◌, not, nat_le, [], ◌∷◌, drop, Option, Some, None, if◌then◌else◌}
+use Rattle.std.specs.Prelude.{ℕ, Bool, ◌==◌, ◌&&◌, ◌||◌, not, [], ◌∷◌, drop, Option, Some, None, if◌then◌else◌}
 use Rattle.std.specs.List.{list_all, list_any, prefix_len, take_while}
-use Rattle.eb_bytes.specs.Text.{Text, is_blank}
+use Rattle.eb_bytes.specs.Class.{is_blank, is_letter_or_digit, is_name, is_name_byte, is_nul}
+use Rattle.eb_bytes.specs.Text.{Text}
 
 -- ---- bytes
 
-abbrev pub is_letter : ℕ → Bool
-is_letter b = nat_le 65 b && nat_le b 90 || nat_le 97 b && nat_le b 122
-
-abbrev pub is_digit : ℕ → Bool
-is_digit b = nat_le 48 b && nat_le b 57
-
--- what a name begins with: a letter or an underscore
-abbrev pub begins_name : ℕ → Bool
-begins_name b = is_letter b || b == 95
-
--- what a name is made of: letters, digits and underscores
-abbrev pub is_name_byte : ℕ → Bool
-is_name_byte b = begins_name b || is_digit b
-
 -- what a value without quotes is made of: letters, digits and + _ . : / @ -
 abbrev pub is_bare : ℕ → Bool
-is_bare b = is_letter b || is_digit b || b == 43 || b == 95 || b == 46 || b == 58 || b == 47 || b == 64 || b == 45
+is_bare b = is_letter_or_digit b || b == 43 || b == 95 || b == 46 || b == 58 || b == 47 || b == 64 || b == 45
 
--- what a value in double quotes is made of: all bytes but the double quote, the dollar, the backquote, the backslash and 0
+-- what a value in double quotes is made of: all bytes except the double quote, the dollar, the backquote, the backslash and 0
 abbrev pub is_quotable : ℕ → Bool
-is_quotable b = not (b == 34 || b == 36 || b == 96 || b == 92 || b == 0)
+is_quotable b = not (b == 34 || b == 36 || b == 96 || b == 92 || is_nul b)
 
-abbrev pub is_zero : ℕ → Bool
-is_zero b = b == 0
+-- ---- values
 
--- ---- names and values
-
--- what stands behind the longest run of such bytes at the front
+-- what follows the longest run of such bytes at the front
 abbrev pub after_while : (ℕ → Bool) → Text → Text
 after_while p t = drop (prefix_len p t) t
 
--- whether a run of name bytes is a name
-abbrev pub is_name : Text → Bool
-is_name [] = false
-is_name (b ∷ bs) = begins_name b
-
--- the value, where only blanks and tabs stand behind it
+-- the value, where only blanks and tabs follow it
 abbrev pub before_blanks : Text → Text → Option Text
 before_blanks value rest = if list_all is_blank rest then Some value else None
 
@@ -53,7 +32,7 @@ abbrev pub closed_value : Text → Text → Option Text
 closed_value value [] = None
 closed_value value (b ∷ rest) = if b == 34 then before_blanks value rest else None
 
--- the value that is spelled so, bare or in double quotes, with blanks and tabs behind it
+-- the value that is written so, bare or in double quotes, with blanks and tabs after it
 abbrev pub spelled_value : Text → Option Text
 spelled_value [] = Some []
 spelled_value (b ∷ t) = if b == 34 then closed_value (take_while is_quotable t) (after_while is_quotable t) else bare_value (b ∷ t)
@@ -78,7 +57,7 @@ assigned_line name (b ∷ spelled) = if b == 61 && is_name name then with_value 
 -- a line from its first byte on that is no blank and no tab
 abbrev pub line_from : Text → PlainLine
 line_from [] = Nothing
-line_from (b ∷ t) = if b == 35 then (if list_any is_zero t then Other else Nothing) else assigned_line (take_while is_name_byte (b ∷ t)) (after_while is_name_byte (b ∷ t))
+line_from (b ∷ t) = if b == 35 then (if list_any is_nul t then Other else Nothing) else assigned_line (take_while is_name_byte (b ∷ t)) (after_while is_name_byte (b ∷ t))
 
 abbrev pub plain_line : Text → PlainLine
 plain_line line = line_from (after_while is_blank line)

@@ -1,8 +1,9 @@
 -- The plain lines as they are written.
 use Rattle.std.specs.Prelude.{◌≡◌, ◌⊎◌, true, false, [], ◌∷◌, ◌++◌}
 use Rattle.std.specs.List.{list_all, list_any}
-use Rattle.eb_bytes.specs.Text.{Text, is_blank}
-use Rattle.egencache.specs.Plain.{is_bare, is_name, is_name_byte, is_quotable, is_zero}
+use Rattle.eb_bytes.specs.Class.{is_blank, is_name, is_nul}
+use Rattle.eb_bytes.specs.Text.{Text}
+use Rattle.egencache.specs.Plain.{is_bare, is_quotable}
 
 -- only blanks and tabs
 pub record IsBlanks (text : Text) : Type 0 where
@@ -14,16 +15,11 @@ pub record IsComment (line : Text) : Type 0 where
   pub comment : Text
   pub shape : line ≡ lead ++ 35 ∷ comment
   pub blank_lead : IsBlanks lead
-  pub no_zero : list_any is_zero comment ≡ false
+  pub no_zero : list_any is_nul comment ≡ false
 
 -- a line that says nothing
 abbrev pub IsNothing : Text → Type 0
 IsNothing line = IsBlanks line ⊎ IsComment line
-
--- letters, digits and underscores, of which the first is no digit
-pub record IsName (name : Text) : Type 0 where
-  pub first : is_name name ≡ true
-  pub bytes : list_all is_name_byte name ≡ true
 
 -- the value as it is
 pub record IsBareSpelling (spelled value : Text) : Type 0 where
@@ -46,6 +42,6 @@ pub record IsAssignment (line name value : Text) : Type 0 where
   pub trail : Text
   pub shape : line ≡ lead ++ (name ++ 61 ∷ (spelled ++ trail))
   pub blank_lead : IsBlanks lead
-  pub named : IsName name
+  pub named : is_name name ≡ true
   pub spells : IsSpelling spelled value
   pub blank_trail : IsBlanks trail

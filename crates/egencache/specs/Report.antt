@@ -59,7 +59,7 @@ sourced_answer at given = record { status = outcome_status given.outcome; text =
 abbrev pub sourced_small : Text → Sourced
 sourced_small text = if nat_lt 1048576 (length text) then not_run (FormNotYet 0) else sourced text
 
--- an ebuild is looked at only where its place is one that an ebuild may have
+-- an ebuild is read only where its path in the repository is well formed
 abbrev pub sourced_named : Option NameKind → Text → Sourced
 sourced_named None text = sourced_small text
 sourced_named (Some kind) text = not_run (NameBad kind)

@@ -1,13 +1,14 @@
--- What the words of the command line ask for.
+-- What the arguments ask for.
 use Rattle.std.specs.Prelude.{◌&&◌, nat_eq, List, [], ◌∷◌, ◌++◌, Option, Some, None, codes, if◌then◌else◌}
 use Rattle.std.specs.List.{ends_with, list_any, slice_split}
 use Rattle.std.specs.Option.{option_map}
+use Rattle.eb_bytes.specs.Class.{is_nul}
 use Rattle.eb_bytes.specs.Text.{Text, has_bytes}
-use Rattle.eb_files.specs.Paths.{is_slash, is_zero, path_of}
+use Rattle.eb_files.specs.Paths.{is_slash, path_of}
 use Rattle.ebuild_names.specs.declared.path.EbuildPath.{EbuildPath}
 use Rattle.egencache.specs.Assignments.{is_text}
 
--- one ebuild of a repository: its file's path, and its place as it was written
+-- one ebuild of a repository: its file's path, and its path in the repository, as it was written and in parts
 pub record Request : Type 0 where
   pub path : Text
   pub at : Text
@@ -26,21 +27,21 @@ place_of_parts (a ∷ b ∷ []) = None
 place_of_parts (a ∷ b ∷ c ∷ []) = as_place a b c
 place_of_parts (a ∷ b ∷ c ∷ d ∷ more) = None
 
--- the place that CAT/PN/FILE names
+-- the parts of CAT/PN/FILE
 abbrev pub place_of : Text → Option EbuildPath
 place_of at = place_of_parts (slice_split is_slash at)
 
--- ---- the words
+-- ---- the arguments
 
--- the file at the place below the root
+-- the file below the root
 abbrev pub asked_below : Text → Text → EbuildPath → Request
 asked_below root at place = record { path = root ++ 47 ∷ at; at = at; place = place }
 
 abbrev pub asked_at : Option Text → Text → Option Request
 asked_at None at = None
-asked_at (Some root) at = if list_any is_zero at then None else option_map (asked_below root at) (place_of at)
+asked_at (Some root) at = if list_any is_nul at then None else option_map (asked_below root at) (place_of at)
 
--- the words `print REPO CAT/PN/FILE`; there is no other form
+-- the arguments `print REPO CAT/PN/FILE`; all others are invalid
 abbrev pub request_of : List Text → Option Request
 request_of [] = None
 request_of (command ∷ []) = None

@@ -1,4 +1,4 @@
--- What an answer of the code tells.
+-- What an answer of the code says.
 use Rattle.std.specs.Prelude.{◌≡◌, ℕ, List, Option, Some, None, Result, Ok, Err}
 use Rattle.egencache.specs.declared.assignments.PlainErr.{PlainErr}
 use Rattle.egencache.specs.declared.assignments.PlainErr.TheVariants.{NotPlain, Memory}

@@ -8,19 +8,19 @@ use std::alloc::Global;
 /// Why an ebuild has no entry.
 #[derive(Debug, Drop)]
 pub enum Fault {
-    /// The first part of its place that is no such name.
+    /// The first part of its path that is malformed.
     NameBad(NameKind),
     /// The text cannot be read yet: the number of its first line that is not plain, or 0 where the file is too large.
     FormNotYet(u32),
     /// The EAPI that the text names is none of 0 to 8: that text.
     EapiUnknown(Bytes),
-    /// The EAPI that the text names, and another one that the variable EAPI has after the run.
+    /// The EAPI that the text names, and the different value of the variable EAPI after the run.
     EapiMismatch(Bytes, Bytes),
-    /// SLOT has no word.
+    /// SLOT is blank.
     SlotMissing,
 }
 
-// Puts a text as a report shows it at the end: its words joined by one blank, or a hyphen where it has none.
+// Appends a text as a report shows it: its words joined by one blank, or a hyphen where it has none.
 fn append_shown(alloc: Global, to: &mut Bytes, text: &[u8]) -> Result<(), Memory>
     ensures { OnOk result (to.new ≡ to.old ++ shown text.now) }
 {
@@ -33,10 +33,10 @@ fn append_shown(alloc: Global, to: &mut Bytes, text: &[u8]) -> Result<(), Memory
     Ok(())
 }
 
-/// Puts a fault's text at the end: its name, and each of its fields after one blank.
+/// Appends a fault's text: its name, and each of its fields after one blank.
 ///
 /// # Errors
-/// `Memory` where there is no room for it; some first bytes of it may have been put then.
+/// `Memory` where there is no room for it; some first bytes of it may have been appended then.
 pub fn append_fault(alloc: Global, to: &mut Bytes, fault: &Fault) -> Result<(), Memory>
     ensures { OnOk result (to.new ≡ to.old ++ fault_text fault.now) }
 {

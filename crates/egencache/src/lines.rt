@@ -1,15 +1,16 @@
 ghost use Rattle.std.specs.Prelude.{◌≡◌, ◌∷◌, position};
-ghost use Rattle.eb_bytes.specs.Text.{is_newline, lines};
+ghost use Rattle.eb_bytes.specs.Class.{is_newline};
+ghost use Rattle.eb_bytes.specs.Text.{lines};
 ghost use Rattle.egencache.specs.LinesLeft.{rest_lines};
 
-// The place of the first newline.
+// The index of the first newline.
 fn line_end(text: &[u8]) -> Option<usize>
     ensures { result ≡ position is_newline text.now }
 {
     text.iter().position(|byte| *byte == b'\n')
 }
 
-// The first line of a text, and what stands behind its newline, if it has one.
+// The first line of a text, and what follows its newline, if it has one.
 fn split_line(text: &[u8]) -> (&[u8], Option<&[u8]>)
     ensures { lines text.now ≡ result.0.now ∷ rest_lines result.1 }
 {
@@ -19,8 +20,7 @@ fn split_line(text: &[u8]) -> (&[u8], Option<&[u8]>)
     }
 }
 
-/// The lines of a text, from the first to the last: what stands between its newlines. Behind a newline at the end that
-/// is one empty line more.
+/// The lines of a text, in order: what its newlines separate. After a newline at the end that is one empty line more.
 #[derive(Clone, Copy)]
 pub struct Lines<'a> {
     rest: Option<&'a [u8]>,

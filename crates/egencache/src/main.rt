@@ -13,6 +13,7 @@ mod report;
 mod request;
 mod source;
 mod status;
+mod system;
 #[cfg(test)]
 mod tests;
 mod text_laws;
@@ -20,27 +21,13 @@ mod top;
 
 use crate::host::{HostSink, HostTree};
 use crate::status::Status;
+use crate::system::read_words;
 use crate::top::egencache;
 use eb_bytes::{Bytes, Memory, Steps};
 use std::env;
-use std::io::ErrorKind;
 use std::marker::Brand;
 use std::process::ExitCode;
 use std::sync::ledger::{Blank, Ledger};
-
-// The words behind the program's name. Where one of them is no text there are none, and no words have no form.
-fn command_line(rt: &HostRuntime) -> Result<Vec<Bytes>, Memory> {
-    let mut words = Vec::new(rt.alloc());
-    let arguments = match env::args(rt) {
-        Ok(arguments) => arguments,
-        Err(error) if error.kind() == ErrorKind::InvalidData => return Ok(words),
-        Err(_) => return Err(Memory),
-    };
-    for argument in arguments.skip(1) {
-        words.push(Bytes::from_slice(rt.alloc(), argument.as_bytes())?)?;
-    }
-    Ok(words)
-}
 
 fn answer<L: Ledger>(rt: &HostRuntime, words: &[Bytes], blank: Blank) -> Status
     requires name { blank.name ≡ L.name }
@@ -54,7 +41,7 @@ fn answer<L: Ledger>(rt: &HostRuntime, words: &[Bytes], blank: Blank) -> Status
 }
 
 fn main(rt: HostRuntime) -> ExitCode {
-    let status = match command_line(&rt) {
+    let status = match read_words(rt.alloc(), env::args(&rt)) {
         Ok(words) => answer::<Brand>(&rt, words.as_slice(), Blank::new(1)),
         Err(Memory) => Status::Memory,
     };

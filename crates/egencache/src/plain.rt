@@ -1,8 +1,11 @@
 ghost use Rattle.std.specs.Prelude.{◌≡◌, position, not};
 ghost use Rattle.std.specs.List.{list_all, prefix_len, take_while};
 ghost use Rattle.std.specs.Option.{option_copied};
-ghost use Rattle.egencache.specs.Plain.{is_name as is_name_text, plain_line, assigned_line, spelled_value, bare_value, closed_value, before_blanks as before_blanks_text, after_while, is_name_byte, is_quotable as is_quotable_byte};
+ghost use Rattle.eb_bytes.specs.Class.{is_name_byte as is_name_byte_of};
+ghost use Rattle.egencache.specs.Plain.{after_while, assigned_line, bare_value, before_blanks as before_blanks_text, closed_value, is_quotable as is_quotable_byte, plain_line, spelled_value};
 ghost use Rattle.egencache.specs.Seen.{seen, in_class};
+
+use eb_bytes::{is_blank, is_letter_or_digit, is_name, is_name_byte};
 
 /// What a line of an ebuild is, as far as it can be told without a shell.
 #[derive(Clone, Copy)]
@@ -24,7 +27,7 @@ enum Class {
     NameByte,
     /// Letters, digits and `+_.:/@-`.
     Bare,
-    /// All but the double quote, `$`, the backquote, the backslash and byte 0.
+    /// All except the double quote, `$`, the backquote, the backslash and byte 0.
     Quotable,
 }
 
@@ -33,10 +36,10 @@ impl Class {
         ensures { result ≡ in_class self byte }
     {
         match self {
-            Class::Blank => matches!(byte, b' ' | b'\t'),
-            Class::NameByte => matches!(byte, b'A'..=b'Z' | b'a'..=b'z' | b'0'..=b'9' | b'_'),
+            Class::Blank => is_blank(byte),
+            Class::NameByte => is_name_byte(byte),
             Class::Bare => {
-                matches!(byte, b'A'..=b'Z' | b'a'..=b'z' | b'0'..=b'9')
+                is_letter_or_digit(byte)
                     || matches!(byte, b'+' | b'_' | b'.' | b':' | b'/' | b'@' | b'-')
             }
             Class::Quotable => !matches!(byte, b'"' | b'$' | b'`' | b'\\' | 0),
@@ -44,7 +47,7 @@ impl Class {
     }
 }
 
-// The place of the first byte that is not of the class.
+// The index of the first byte that is not of the class.
 fn run_end(class: Class, text: &[u8]) -> Option<usize>
     ensures { result ≡ position (λ byte. not (in_class class byte)) text.now }
 {
@@ -61,7 +64,7 @@ fn run_len(class: Class, text: &[u8]) -> usize
     }
 }
 
-// The longest run of bytes of the class at the front, and what stands behind it.
+// The longest run of bytes of the class at the front, and what follows it.
 fn split_run(class: Class, text: &[u8]) -> (&[u8], &[u8])
     ensures run { result.0.now ≡ take_while (in_class class) text.now }
     ensures rest { result.1.now ≡ after_while (in_class class) text.now }
@@ -76,17 +79,7 @@ fn is_all(class: Class, text: &[u8]) -> bool
     text.iter().all(|byte| class.has(*byte))
 }
 
-// Whether a run of name bytes is a name: it is not empty, and begins with no digit.
-fn is_name(run: &[u8]) -> bool
-    ensures { result ≡ is_name_text run.now }
-{
-    match run {
-        [] => false,
-        [first, ..] => matches!(*first, b'A'..=b'Z' | b'a'..=b'z' | b'_'),
-    }
-}
-
-// The value, bare or in double quotes, that is spelled so, with blanks and tabs behind it.
+// The value, bare or in double quotes, that is written so, with blanks and tabs after it.
 fn read_value(spelled: &[u8]) -> Option<&[u8]>
     ensures { option_copied result ≡ spelled_value spelled.now }
 {
@@ -103,18 +96,18 @@ fn read_bare(spelled: &[u8]) -> Option<&[u8]>
     before_blanks(value, rest)
 }
 
-// The value that is spelled so behind its opening quote.
+// The value that is written so after its opening quote.
 fn read_quoted(inner: &[u8]) -> Option<&[u8]>
     ensures { option_copied result ≡ closed_value (take_while is_quotable_byte inner.now) (after_while is_quotable_byte inner.now) }
 {
     let (value, rest) = split_run(Class::Quotable, inner);
     match rest {
-        [b'"', behind @ ..] => before_blanks(value, behind),
+        [b'"', after @ ..] => before_blanks(value, after),
         _ => None,
     }
 }
 
-// The value, where only blanks and tabs stand behind it.
+// The value, where only blanks and tabs follow it.
 fn before_blanks<'a>(value: &'a [u8], rest: &[u8]) -> Option<&'a [u8]>
     ensures { option_copied result ≡ before_blanks_text value.now rest.now }
 {
@@ -144,7 +137,7 @@ pub fn read_line(line: &[u8]) -> Line<'_>
 }
 
 fn read_assignment(body: &[u8]) -> Line<'_>
-    ensures { seen result ≡ assigned_line (take_while is_name_byte body.now) (after_while is_name_byte body.now) }
+    ensures { seen result ≡ assigned_line (take_while is_name_byte_of body.now) (after_while is_name_byte_of body.now) }
 {
     let (name, rest) = split_run(Class::NameByte, body);
     match rest {

@@ -4,9 +4,8 @@ ghost use Rattle.eb_files.specs.Causes.{HasCause};
 ghost use Rattle.eb_files.specs.Files.{Files};
 ghost use Rattle.egencache.specs.Placed.{requested};
 ghost use Rattle.eb_bytes.specs.Text.{Text};
-ghost use Rattle.ebuild_names.specs.BadKind.{bad_kind as bad_kind_of};
 ghost use Rattle.egencache.specs.Report.{absent_text, fail_text, file_answer, outcome_status, outcome_text};
-ghost use Rattle.egencache.specs.Answered.{IsFileFault, IsReportStatus, TellsReport};
+ghost use Rattle.egencache.specs.Answered.{IsReportStatus, TellsReport, is_unread};
 
 use crate::fault::{Fault, append_fault};
 use crate::request::Request;
@@ -14,7 +13,7 @@ use crate::source::{Outcome, source_text};
 use crate::status::Status;
 use eb_bytes::{Bytes, Memory, Steps};
 use eb_files::{Tree, TreeErr};
-use ebuild_names::{EbuildPath, NameErr, NameKind, read_path};
+use ebuild_names::bad_kind;
 use md5_cache::write_entry;
 use std::alloc::Global;
 use std::sync::ledger::Ledger;
@@ -93,17 +92,6 @@ fn outcome_report(alloc: Global, at: &[u8], outcome: &Outcome) -> Result<Report,
     }
 }
 
-// The first part of the place that is no such name, if there is one.
-fn bad_kind(alloc: Global, place: &EbuildPath) -> Result<Option<NameKind>, Memory>
-    ensures { IfOk result (λ kind. kind ≡ bad_kind_of place.now) }
-{
-    match read_path(alloc, place) {
-        Ok(_) => Ok(None),
-        Err(NameErr::Bad(kind)) => Ok(Some(kind)),
-        Err(NameErr::Memory) => Err(Memory),
-    }
-}
-
 // The report on an ebuild of this text.
 fn file_report<L: Ledger>(
     alloc: Global,
@@ -118,7 +106,7 @@ fn file_report<L: Ledger>(
     ensures at_least { steps.old ≤ steps.new }
     ensures at_most { steps.new ≤ steps.old + (file_answer (requested request.now) (Some text.now)).steps }
 {
-    if let Some(kind) = bad_kind(alloc, &request.place)? {
+    if let Some(kind) = bad_kind(&request.place) {
         return fault_report(alloc, request.at, &Fault::NameBad(kind));
     }
     let outcome = source_text(alloc, text, steps)?;
@@ -130,7 +118,7 @@ fn large_report(alloc: Global, request: &Request<'_>) -> Result<Report, Memory>
     ensures status { IfOk result (λ report. report.status ≡ Status.SomeFailed) }
     ensures told { IfOk result (λ report. (text : Text) → MAX_EBUILD < length text → report.text ≡ (file_answer (requested request.now) (Some text)).text) }
 {
-    let fault = match bad_kind(alloc, &request.place)? {
+    let fault = match bad_kind(&request.place) {
         Some(kind) => Fault::NameBad(kind),
         None => Fault::FormNotYet(0),
     };
@@ -140,7 +128,7 @@ fn large_report(alloc: Global, request: &Request<'_>) -> Result<Report, Memory>
 /// The report on the ebuild that was asked for. `steps` takes the steps of its run.
 ///
 /// # Errors
-/// `FileFault` where its file could not be read; `Memory` where there is not room enough. Some or all of the steps
+/// `FileFault` where its file could not be read; `Memory` where memory runs out. Some or all of the steps
 /// may have been taken then.
 pub fn print_report<T: Tree, L: Ledger>(
     alloc: Global,
@@ -150,7 +138,7 @@ pub fn print_report<T: Tree, L: Ledger>(
 ) -> Result<Report, ReportErr>
     ensures files { T.files tree.new ≡ T.files tree.old }
     ensures told { (f : Files) → T.files tree.old ≡ Some f → TellsReport result (file_answer (requested request.now) (map.get f request.now.path)) steps.old steps.new }
-    ensures cause { HasCause (IsFileFault result) (T.faults tree.old) (T.faults tree.new) (T.may_fail tree.old) (T.may_fail tree.new) }
+    ensures cause { HasCause (is_unread result) (T.faults tree.old) (T.faults tree.new) (T.may_fail tree.old) (T.may_fail tree.new) }
     ensures status { IfOk result (λ report. IsReportStatus report.status) }
 {
     match tree.read(alloc, &request.path, MAX_EBUILD) {

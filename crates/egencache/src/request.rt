@@ -18,7 +18,7 @@ struct Parts<'a> {
     file: &'a [u8],
 }
 
-/// One ebuild of a repository: the path of its file, and its place, also as it was written.
+/// One ebuild of a repository: the path of its file, and its path in the repository, as it was written and in parts.
 #[derive(Drop)]
 pub struct Request<'a> {
     pub path: Path,
@@ -26,14 +26,14 @@ pub struct Request<'a> {
     pub place: EbuildPath,
 }
 
-// The place of the first slash.
+// The index of the first slash.
 fn slash(text: &[u8]) -> Option<usize>
     ensures { result ≡ position is_slash text.now }
 {
     text.iter().position(|byte| *byte == b'/')
 }
 
-// What stands before the first slash, and what behind it.
+// What comes before the first slash, and what after it.
 fn split_slash(text: &[u8]) -> Option<(&[u8], &[u8])>
     ensures { MatchOption result (slice_split is_slash text.now ≡ text.now ∷ []) (λ cut. slice_split is_slash text.now ≡ cut.0.now ∷ slice_split is_slash cut.1.now) }
 {
@@ -63,12 +63,8 @@ impl<'a> Parts<'a> {
     fn read(at: &'a [u8]) -> Option<Parts<'a>>
         ensures { option_map placed result ≡ place_of at.now }
     {
-        let Some((category, rest)) = split_slash(at) else {
-            return None;
-        };
-        let Some((name, file)) = split_slash(rest) else {
-            return None;
-        };
+        let (category, rest) = split_slash(at)?;
+        let (name, file) = split_slash(rest)?;
         match split_slash(file) {
             Some(_) => None,
             None => as_parts(category, name, file),
@@ -76,7 +72,7 @@ impl<'a> Parts<'a> {
     }
 }
 
-// The place that `CAT/PN/FILE` names, if it names one.
+// The parts of `CAT/PN/FILE`, copied.
 fn read_place(alloc: Global, at: &[u8]) -> Result<Option<EbuildPath>, Memory>
     ensures { IfOk result (λ place. place ≡ place_of at.now) }
 {
@@ -90,8 +86,8 @@ fn read_place(alloc: Global, at: &[u8]) -> Result<Option<EbuildPath>, Memory>
     }))
 }
 
-/// What the words ask for; none where they are not `print REPO CAT/PN/FILE`, where REPO is empty without the slashes
-/// at its end, or where a word holds a byte 0.
+/// What the arguments ask for; none where they are not `print REPO CAT/PN/FILE`, where REPO is empty without the
+/// slashes at its end, or where an argument holds a byte 0.
 ///
 /// # Errors
 /// `Memory` where there is no room for the path.
@@ -122,6 +118,6 @@ fn read_below<'a>(
     let Some(place) = read_place(alloc, at)? else {
         return Ok(None);
     };
-    let path = root.join(at)?;
+    let path = root.join(alloc, at)?;
     Ok(Some(Request { path, at, place }))
 }

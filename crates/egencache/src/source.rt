@@ -176,7 +176,7 @@ fn eapi_of(text: &[u8]) -> Option<Eapi>
 /// the EAPI that it names is not known, or a line cannot be read.
 ///
 /// # Errors
-/// `Memory` where there is not room enough; some or all of the steps may have been taken then.
+/// `Memory` where memory runs out; some or all of the steps may have been taken then.
 pub fn source_text<L: Ledger>(
     alloc: Global,
     text: &[u8],

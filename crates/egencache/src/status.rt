@@ -8,7 +8,7 @@ pub enum Status {
     Done,
     /// 1: the ebuild has no entry, and the line that says why was put.
     SomeFailed,
-    /// 2: the words have no form that there is.
+    /// 2: the arguments are invalid.
     Usage,
     /// 3: the repository has no such ebuild.
     RepoBad,
@@ -16,7 +16,7 @@ pub enum Status {
     FileFault,
     /// 5: the output could not be written.
     ReportFault,
-    /// 6: there was not memory enough.
+    /// 6: memory ran out.
     Memory,
 }
 

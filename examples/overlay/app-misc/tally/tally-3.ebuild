@@ -1,5 +1,5 @@
-# Copyright 2026 The egencache authors
-# Distributed under the terms of the MIT license
+# Copyright 2026 the egencache authors
+# Distributed under the terms of the MIT License
 
 EAPI=8
 

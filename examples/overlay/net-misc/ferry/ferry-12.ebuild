@@ -1,4 +1,5 @@
-# Copyright 2026 The egencache authors
+# Copyright 2026 the egencache authors
+# Distributed under the terms of the MIT License
 
 EAPI=2
 DESCRIPTION="Carries files between two hosts, a block at a time"

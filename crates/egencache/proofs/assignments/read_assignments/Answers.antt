@@ -1,5 +1,6 @@
 use Rattle.std.proofs.Common.{List, length, ap, arith}
-use Rattle.eb_bytes.specs.Text.{Text, is_newline}
+use Rattle.eb_bytes.specs.Class.{is_newline}
+use Rattle.eb_bytes.specs.Text.{Text}
 use Rattle.egencache.proofs.Cuts.{length-slice_split-le}
 use Rattle.egencache.proofs.assignments.read_assignments.Goals as goal
 

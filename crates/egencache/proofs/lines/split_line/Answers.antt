@@ -1,7 +1,6 @@
 use Rattle.std.proofs.Common.{sym}
-use Rattle.eb_bytes.specs.Text.{is_newline}
-use Rattle.eb_bytes.proofs.WordRuns.{position_some, position_none}
-use Rattle.egencache.proofs.Cuts.{slice_split-whole, slice_split-cut}
+use Rattle.eb_bytes.specs.Class.{is_newline}
+use Rattle.egencache.proofs.Cuts.{position_none, position_some, slice_split-cut, slice_split-whole}
 use Rattle.egencache.proofs.lines.split_line.Goals as goal
 
 pub returns-in-None : goal.returns-in-None

@@ -1,8 +1,7 @@
 use Rattle.std.proofs.Common.{not, sym, arith}
 use Rattle.std.proofs.lemmas.List.Sums.{prefix_len-le-length}
-use Rattle.eb_bytes.proofs.WordRuns.{position_none}
 use Rattle.egencache.specs.Seen.{in_class}
-use Rattle.egencache.proofs.Cuts.{prefix_len-twice}
+use Rattle.egencache.proofs.Cuts.{position_none, prefix_len-twice}
 use Rattle.egencache.proofs.plain.run_len.Goals as goal
 
 pub returns-in-None : goal.returns-in-None

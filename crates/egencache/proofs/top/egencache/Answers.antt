@@ -1,4 +1,4 @@
-use Rattle.std.proofs.Common.{◌≡◌, ◌+◌, ◌≤◌, Option, Some, None, Result, Err, sym, ap, subst, ◌∙◌}
+use Rattle.std.proofs.Common.{◌≡◌, ◌+◌, ◌≤◌, Option, Some, None, Result, Err, refl, sym, ap, subst, ◌∙◌}
 use Rattle.std.specs.Option.{option_map}
 use Rattle.egencache.specs.declared.report.Report.{Report}
 use Rattle.egencache.specs.declared.report.ReportErr.{ReportErr}
@@ -8,7 +8,7 @@ use Rattle.egencache.specs.Answered.{Puts}
 use Rattle.egencache.specs.Placed.{requested}
 use Rattle.egencache.specs.Report.{Answer, file_fault_text}
 use Rattle.egencache.specs.Request.{request_of}
-use Rattle.egencache.proofs.Puts.{EndsPut-report, HasCause-else, IsPutStatus-report, PutsAllOrNothing-appended, PutsPrefix-appended, TellsReport-fault, TellsReport-memory, answer_to-request, answer_to-usage}
+use Rattle.egencache.proofs.Puts.{HasCause-none, HasCause-same, IsPutStatus-report, PutsAllOrNothing-appended, PutsPrefix-appended, SinkCause-file_fault, SinkCause-none, SinkCause-put, TellsReport-fault, TellsReport-memory, answer_to-request, answer_to-usage, file_fault_never, not_file_fault}
 use Rattle.egencache.proofs.top.egencache.Goals as goal
 
 pub returns-in-Ok-None-clause-puts : goal.returns-in-Ok-None-clause-puts
@@ -20,11 +20,36 @@ returns-in-Ok-None-clause-puts g c = λ f held files told.
 pub put_text-requires-in-Ok : goal.put_text-requires-in-Ok
 put_text-requires-in-Ok g c = IsPutStatus-report c.in-Ok.report.status c.in-Ok.ensures.status
 
+-- usage and a report do not end with a file fault
+pub returns-in-Ok-None-clause-tree_cause : goal.returns-in-Ok-None-clause-tree_cause
+returns-in-Ok-None-clause-tree_cause g c = HasCause-same (sym (not_file_fault c.put_text.result _ tt c.put_text.ensures.ends)) (HasCause-none _ _)
+
+pub returns-in-Ok-None-clause-sink_cause : goal.returns-in-Ok-None-clause-sink_cause
+returns-in-Ok-None-clause-sink_cause g c = SinkCause-put _ _ _ _ _ (not_file_fault c.put_text.result _ tt c.put_text.ensures.ends) c.put_text.ensures.cause
+
 pub returns-in-Ok-clause-tree_cause : goal.returns-in-Ok-clause-tree_cause
-returns-in-Ok-clause-tree_cause g c = HasCause-else _ _ _ _ _ _ (EndsPut-report c.put_text-in-Ok.result c.in-Ok.report.status c.in-Ok.ensures.status c.put_text-in-Ok.ensures.ends) c.in-Ok.ensures.cause
+returns-in-Ok-clause-tree_cause g c =
+    let none = not_file_fault c.put_text-in-Ok.result c.in-Ok.report.status (IsPutStatus-report _ c.in-Ok.ensures.status) c.put_text-in-Ok.ensures.ends in
+    HasCause-same (sym none) c.in-Ok.ensures.cause
+
+pub returns-in-Ok-clause-sink_cause : goal.returns-in-Ok-clause-sink_cause
+returns-in-Ok-clause-sink_cause g c =
+    let none = not_file_fault c.put_text-in-Ok.result c.in-Ok.report.status (IsPutStatus-report _ c.in-Ok.ensures.status) c.put_text-in-Ok.ensures.ends in
+    SinkCause-put _ _ _ _ _ none c.put_text-in-Ok.ensures.cause
 
 pub returns-in-Ok-clause-fault_line : goal.returns-in-Ok-clause-fault_line
-returns-in-Ok-clause-fault_line g c = λ held e told calm. absurd (EndsPut-report c.put_text-in-Ok.result c.in-Ok.report.status c.in-Ok.ensures.status c.put_text-in-Ok.ensures.ends e)
+returns-in-Ok-clause-fault_line g c = λ held e told calm.
+    let none = not_file_fault c.put_text-in-Ok.result c.in-Ok.report.status (IsPutStatus-report _ c.in-Ok.ensures.status) c.put_text-in-Ok.ensures.ends in
+    absurd (file_fault_never c.put_text-in-Ok.result none e)
+
+pub returns-in-Err-clause-sink_cause : goal.returns-in-Err-clause-sink_cause
+returns-in-Err-clause-sink_cause g c = SinkCause-none _ _ _ refl
+
+pub returns-in-Err-Memory-clause-sink_cause : goal.returns-in-Err-Memory-clause-sink_cause
+returns-in-Err-Memory-clause-sink_cause g c = SinkCause-none _ _ _ refl
+
+pub returns-clause-sink_cause : goal.returns-clause-sink_cause
+returns-clause-sink_cause g c = SinkCause-file_fault _ _ _ _ _ c.put.ensures.cause
 
 pub returns-in-Err-Memory-clause-answers : goal.returns-in-Err-Memory-clause-answers
 returns-in-Err-Memory-clause-answers g c = λ f files.

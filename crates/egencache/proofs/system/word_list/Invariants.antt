@@ -1,0 +1,7 @@
+use Rattle.std.proofs.Common.{◌≡◌, ◌++◌, map, drop}
+use Rattle.std.specs.String.{string_bytes}
+use Rattle.std.specs.Vec.Iter.{into_iter_items}
+use Rattle.egencache.proofs.system.word_list.Given as goal
+
+abbrev pub invariant-loop-argument : goal.invariant-loop-argument
+invariant-loop-argument l = l.words.items ++ map string_bytes (into_iter_items l.argument-iterator) ≡ map string_bytes (drop 1 (into_iter_items l.fn.arguments))
