@@ -1,4 +1,4 @@
--- The nodes that are one shape over another, by the names of their rules.
+-- The nodes that are one shape over another, by the names of their rules, and the word of a list of pieces.
 use Rattle.std.specs.Prelude.{List}
 use Rattle.eb_syntax.specs.declared.parts.AndOf.{AndOf}
 use Rattle.eb_syntax.specs.declared.parts.AndOrOf.{AndOrOf}
@@ -24,7 +24,7 @@ use Rattle.eb_syntax.specs.declared.tree.Primary.{Primary}
 use Rattle.eb_syntax.specs.declared.tree.QPiece.{QPiece}
 use Rattle.eb_syntax.specs.declared.tree.RegexPart.{RegexPart}
 use Rattle.eb_syntax.specs.declared.tree.SubPart.{SubPart}
-use Rattle.eb_syntax.specs.declared.tree.Word.{Word}
+use Rattle.eb_syntax.specs.declared.tree.Word.{Word, roll-Word}
 
 abbrev pub Script : Type 0
 Script = Items
@@ -94,3 +94,7 @@ Ref = RefOf Sub
 
 abbrev pub ArithText : Type 0
 ArithText = List AP
+
+-- the word that these pieces make
+unfoldable pub word_of_pieces : List Piece → Word
+word_of_pieces found = roll-Word (record { pieces = found })

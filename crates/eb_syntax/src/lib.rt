@@ -1,25 +1,10 @@
-//! The syntax trees of bash scripts, a type for each rule of the grammar that has a node, and the grammar itself, whose
-//! definition is in specs/.
+//! The syntax trees of bash scripts: a type for each rule of the grammar that has a node, named by its rule. What each
+//! rule reads is the definition of eb_grammar.
 #![tactic(auto)]
 
-mod class;
-mod funcs;
-mod laws;
-mod parsed;
 mod parts;
-#[cfg(test)]
-mod tests;
 mod tree;
 
-pub use class::Class;
-#[doc(hidden)]
-pub use funcs::FuncTable;
-pub use funcs::Funcs;
-pub use laws::{
-    alternatives_share_their_beginning, items_own_their_marks, newline_answers_each_mark,
-    readings_take_bytes, redirection_holds_its_body, repetition_needs_no_bound,
-};
-pub use parsed::Parsed;
 pub use parts::{
     AndOf, AndOrOf, AssignedOf, Bar, BinOp, Blank, BothOp, CaseOp, ClauseEnd, CoprocOf, DeclName,
     ElifOf, FName, FileOp, FuncDefOf, GroupPartOf, HereOp, HereTextOf, ItemEnd, ItemOf, JoinedOf,

@@ -1,18 +1,19 @@
 //! The parts of the trees that do not lead back to themselves: operators and marks, and small shapes over one type.
 
 use eb_bytes::Bytes;
+use shared::Shared;
 use sqlite_items::Items as List;
 
-/// Name <- [A-Za-z_] [A-Za-z0-9_]*
+/// The rule Name.
 pub type Name = Bytes;
 
-/// FName <- !Reserved [^ \t\n|&;()<>$`"'\\=]+
+/// The rule FName.
 pub type FName = Bytes;
 
-/// Unary <- "-" [A-Za-z] &Blank, the letter.
+/// The rule Unary: its letter.
 pub type Unary = u8;
 
-/// Blank <- " " / "\t" / "\\\n"
+/// The rule Blank.
 #[derive(Clone, Copy, Debug, PartialEq, Eq)]
 pub enum Blank {
     Space,
@@ -21,24 +22,26 @@ pub enum Blank {
     Continuation,
 }
 
-/// ItemEnd <- ";" !(";" / "&") / "&" !("&" / ">") / &("\n" / "#" / ")" / ";;" / ";&" / Closer / End)
+/// The rule ItemEnd.
 #[derive(Clone, Copy, Debug, PartialEq, Eq)]
 pub enum ItemEnd {
     Semicolon,
     /// The item is run in the background.
     Ampersand,
-    /// What ends the item stands behind it, and is not taken.
+    /// What ends the item stands after it, and is not taken.
     Ahead,
 }
 
-/// "&&" / "||"
+/// What joins two Pipes.
 #[derive(Clone, Copy, Debug, PartialEq, Eq)]
 pub enum Junction {
+    /// `&&`
     And,
+    /// `||`
     Or,
 }
 
-/// Kw("!") B / Kw("time") B (Kw("-p") B)?
+/// What stands before the first Command of a Pipe.
 #[derive(Clone, Copy, Debug, PartialEq, Eq)]
 pub enum PipeMark {
     /// `!`
@@ -49,7 +52,7 @@ pub enum PipeMark {
     TimePosix,
 }
 
-/// "|&" / "|" !"|"
+/// What joins two Commands of a Pipe.
 #[derive(Clone, Copy, Debug, PartialEq, Eq)]
 pub enum Bar {
     /// `|&`, standard error too
@@ -58,21 +61,20 @@ pub enum Bar {
     Plain,
 }
 
-/// ";;&" / ";;" / ";&" / &Kw("esac")
+/// What ends a Clause.
 #[derive(Clone, Copy, Debug, PartialEq, Eq)]
 pub enum ClauseEnd {
-    /// `;;&`, the patterns behind it are tried too
+    /// `;;&`, the patterns after it are tried too
     Continue,
     /// `;;`
     Break,
     /// `;&`, the next clause is run too
     FallThrough,
-    /// `esac` stands behind it
+    /// `esac` stands after it
     Ahead,
 }
 
-/// BinOp <- ("==" / "=" / "!=" / "<" / ">" / "-eq" / "-ne" / "-lt" / "-le" / "-gt" / "-ge" / "-nt" / "-ot" / "-ef")
-///   &Blank
+/// The rule BinOp.
 #[derive(Clone, Copy, Debug, PartialEq, Eq)]
 pub enum BinOp {
     /// `==`
@@ -105,7 +107,7 @@ pub enum BinOp {
     SameFile,
 }
 
-/// DeclName <- Kw of one of: declare typeset local export readonly
+/// The rule DeclName.
 #[derive(Clone, Copy, Debug, PartialEq, Eq)]
 pub enum DeclName {
     Declare,
@@ -115,7 +117,7 @@ pub enum DeclName {
     Readonly,
 }
 
-/// "<<<" / "<>" / "<&" / ">>" / ">&" / ">|"
+/// The operator of a Redir to a here-string, another descriptor or a file.
 #[derive(Clone, Copy, Debug, PartialEq, Eq)]
 pub enum WordOp {
     /// `<<<`, the word itself is the input
@@ -132,16 +134,16 @@ pub enum WordOp {
     Clobber,
 }
 
-/// "<<-" / "<<"
+/// The operator of a here-document.
 #[derive(Clone, Copy, Debug, PartialEq, Eq)]
 pub enum HereOp {
-    /// `<<-`, tabs that lead a line are taken away
+    /// `<<-`, tabs at the start of a line are removed
     StripTabs,
     /// `<<`
     Plain,
 }
 
-/// "<" / ">"
+/// The operator of a Redir that only reads or only writes a file.
 #[derive(Clone, Copy, Debug, PartialEq, Eq)]
 pub enum FileOp {
     /// `<`
@@ -150,7 +152,7 @@ pub enum FileOp {
     Write,
 }
 
-/// "&>>" / "&>", of standard output and standard error
+/// The operator of a Redir of standard output and standard error.
 #[derive(Clone, Copy, Debug, PartialEq, Eq)]
 pub enum BothOp {
     /// `&>>`
@@ -159,7 +161,7 @@ pub enum BothOp {
     Write,
 }
 
-/// "<(" / ">("
+/// What begins a process substitution.
 #[derive(Clone, Copy, Debug, PartialEq, Eq)]
 pub enum Process {
     /// `<(..)`, whose output is read
@@ -168,7 +170,7 @@ pub enum Process {
     Write,
 }
 
-/// ":-" / ":=" / ":?" / ":+" / "-" / "=" / "?" / "+"
+/// The operator that gives a parameter another value.
 #[derive(Clone, Copy, Debug, PartialEq, Eq)]
 pub enum ValueOp {
     /// `:-`, where unset or empty
@@ -189,7 +191,7 @@ pub enum ValueOp {
     Other,
 }
 
-/// "##" / "#" / "%%" / "%"
+/// The operator that removes a match from a parameter's value.
 #[derive(Clone, Copy, Debug, PartialEq, Eq)]
 pub enum StripOp {
     /// `##`
@@ -202,7 +204,7 @@ pub enum StripOp {
     ShortestSuffix,
 }
 
-/// "//" / "/#" / "/%" / "/"
+/// The operator that replaces matches in a parameter's value.
 #[derive(Clone, Copy, Debug, PartialEq, Eq)]
 pub enum ReplaceOp {
     /// `//`
@@ -215,7 +217,7 @@ pub enum ReplaceOp {
     First,
 }
 
-/// "^^" / "^" / ",," / ","
+/// The operator that changes the case of a parameter's value.
 #[derive(Clone, Copy, Debug, PartialEq, Eq)]
 pub enum CaseOp {
     /// `^^`
@@ -228,29 +230,29 @@ pub enum CaseOp {
     LowerFirst,
 }
 
-/// Plain <- [^ \t\n|&;()<>$`"'\\] / Lone
+/// The rule Plain.
 #[derive(Clone, Copy, Debug, PartialEq, Eq)]
 pub enum Plain {
     Byte(u8),
-    /// Lone <- "$" !([({@*#?$!-] / [A-Za-z0-9_])
+    /// A dollar that begins nothing.
     Lone,
 }
 
-/// AndOr <- Pipe (B ("&&" / "||") Lines Pipe)*
+/// The rule AndOr.
 #[derive(Drop)]
 pub struct AndOrOf<P> {
     pub first: P,
     pub others: List<JoinedOf<P>>,
 }
 
-/// ("&&" / "||") Lines Pipe
+/// A Pipe after `&&` or `||`.
 #[derive(Drop)]
 pub struct JoinedOf<P> {
     pub junction: Junction,
     pub pipe: P,
 }
 
-/// Pipe <- (Kw("!") B / Kw("time") B (Kw("-p") B)?)* Command (B ("|&" / "|" !"|") Lines Command)*
+/// The rule Pipe.
 #[derive(Drop)]
 pub struct PipeOf<C> {
     pub marks: List<PipeMark>,
@@ -258,50 +260,49 @@ pub struct PipeOf<C> {
     pub others: List<PipedOf<C>>,
 }
 
-/// ("|&" / "|" !"|") Lines Command
+/// A Command after a bar.
 #[derive(Drop)]
 pub struct PipedOf<C> {
     pub bar: Bar,
     pub command: C,
 }
 
-/// Item <- AndOr B ItemEnd
+/// The rule Item.
 #[derive(Drop)]
 pub struct ItemOf<A> {
     pub list: A,
     pub end: ItemEnd,
 }
 
-/// Kw("elif") Body Kw("then") Body
+/// A further test of an `if`, with what is run where it holds.
 #[derive(Drop)]
 pub struct ElifOf<B> {
     pub test: B,
     pub body: B,
 }
 
-/// And <- Not (Lines "&&" Lines Not)*
+/// The rule And.
 #[derive(Drop)]
 pub struct AndOf<N> {
     pub first: N,
     pub others: List<N>,
 }
 
-/// Or <- And (Lines "||" Lines And)*
+/// The rule Or.
 #[derive(Drop)]
 pub struct OrOf<N> {
     pub first: AndOf<N>,
     pub others: List<AndOf<N>>,
 }
 
-/// RIn <- Regex / Blank
+/// The rule RIn.
 #[derive(Drop)]
 pub enum RInOf<R> {
     Regex(R),
     Blank(Blank),
 }
 
-/// FuncDef <- FName B "(" B ")" Lines Compound (B Redir)*
-///          / Kw("function") Blank+ FName (B "(" B ")")? Lines Compound (B Redir)*
+/// The rule FuncDef.
 #[derive(Drop)]
 pub struct FuncDefOf<C> {
     /// Whether it begins with `function`.
@@ -311,14 +312,14 @@ pub struct FuncDefOf<C> {
     pub body: C,
 }
 
-/// Coproc <- Kw("coproc") B (Compound / Simple)
+/// The rule Coproc.
 #[derive(Drop)]
 pub struct CoprocOf<C> {
     /// The Compound, without Redirs, or the Simple, as a command.
     pub command: C,
 }
 
-/// "(" Lines (Word Lines)* ")" / Piece*
+/// What an Assign assigns.
 #[derive(Drop)]
 pub enum AssignedOf<W> {
     /// The words of an array.
@@ -327,24 +328,25 @@ pub enum AssignedOf<W> {
     Text(W),
 }
 
-/// What is read for a here-document: its lines, without the tabs that are taken away.
+/// What is read for a here-document: its lines, without the tabs that `<<-` removes.
 #[derive(Drop)]
 pub enum HereTextOf<Q> {
     /// The bytes, where the mark's word was quoted.
     Literal(Bytes),
     /// What they stand for inside quotes, where it was not.
-    Parts(List<Q>),
+    Parts(Shared<List<Q>>),
 }
 
-/// Piece / Blank / "|", in an extended group
+/// A part of an extended group.
 #[derive(Drop)]
 pub enum GroupPartOf<P> {
     Piece(P),
     Blank(Blank),
+    /// `|`
     Bar,
 }
 
-/// Ref <- Name Sub? / [0-9]+ / [@*#?$!-]
+/// The rule Ref.
 #[derive(Drop)]
 pub enum RefOf<S> {
     Name(Name, Option<S>),

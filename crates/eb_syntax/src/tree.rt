@@ -1,6 +1,8 @@
-//! The trees: the types that lead back to themselves.
+//! The trees: the types that lead back to themselves. What a word is made of is held by `Shared`, so that a part of a
+//! tree is handed on without a copy of what stands in it.
 
 ghost use Rattle.std.specs.Prelude.{◌≡◌, IfOk};
+ghost use Rattle.eb_syntax.specs.Tree.{word_of_pieces};
 
 use crate::parts::{
     AndOf, AndOrOf, AssignedOf, BinOp, Blank, BothOp, CaseOp, ClauseEnd, CoprocOf, DeclName,
@@ -10,61 +12,60 @@ use crate::parts::{
 use eb_bytes::{Bytes, Memory};
 use shared::Shared;
 use sqlite_items::{Boxed, Items as List};
+use std::alloc::Global;
 
-/// Script <- Items End
+/// The rule Script.
 pub type Script = Items;
 
-/// Body <- Lines Item Items, with the Item as the first of the items.
+/// The rule Body, with its Item as the first of the items.
 pub type Body = Items;
 
-/// Do <- Kw("do") Body Kw("done")
+/// The rule Do.
 pub type Do = Body;
 
-/// Back <- ^("`" ("\\" [^] / [^`\\])* "`"), read as a script.
+/// The rule Back, read as a script.
 pub type Back = Script;
 
-/// Item <- AndOr B ItemEnd
+/// The rule Item.
 pub type Item = ItemOf<AndOr>;
 
-/// AndOr <- Pipe (B ("&&" / "||") Lines Pipe)*
+/// The rule AndOr.
 pub type AndOr = AndOrOf<Pipe>;
 
-/// A Pipe that stands behind `&&` or `||`.
+/// A Pipe after `&&` or `||`.
 pub type Joined = JoinedOf<Pipe>;
 
-/// Pipe <- (Kw("!") B / Kw("time") B (Kw("-p") B)?)* Command (B ("|&" / "|" !"|") Lines Command)*
+/// The rule Pipe.
 pub type Pipe = PipeOf<Shared<Command>>;
 
-/// A Command that stands behind a bar.
+/// A Command after a bar.
 pub type Piped = PipedOf<Shared<Command>>;
 
 /// A further test of an `if`, with what is run where it holds.
 pub type Elif = ElifOf<Body>;
 
-/// FuncDef <- FName B "(" B ")" Lines Compound (B Redir)*
-///          / Kw("function") Blank+ FName (B "(" B ")")? Lines Compound (B Redir)*
+/// The rule FuncDef.
 pub type FuncDef = FuncDefOf<Shared<Command>>;
 
-/// Coproc <- Kw("coproc") B (Compound / Simple)
+/// The rule Coproc.
 pub type Coproc = CoprocOf<Shared<Command>>;
 
-/// And <- Not (Lines "&&" Lines Not)*
+/// The rule And.
 pub type And = AndOf<Not>;
 
-/// Or <- And (Lines "||" Lines And)*
+/// The rule Or.
 pub type Or = OrOf<Not>;
 
-/// Prim <- ^("(" Lines Or Lines ")") / Unary Blank+ !BinOp CWord
-///       / CWord (Blank+ "=~" Blank+ Regex / Blank+ BinOp Blank+ CWord)?
+/// The rule Prim.
 pub type Prim = Primary;
 
-/// CWord <- !Kw("]]") Word
+/// The rule CWord.
 pub type CWord = Word;
 
-/// Regex <- (Piece / "|" / ^("(" RIn* ")"))+
+/// The rule Regex.
 pub type Regex = List<RegexPart>;
 
-/// RIn <- Regex / Blank
+/// The rule RIn.
 pub type RIn = RInOf<Regex>;
 
 /// What is assigned: the words of an array, or a text.
@@ -73,25 +74,25 @@ pub type Assigned = AssignedOf<Word>;
 /// What is read for a here-document.
 pub type HereText = HereTextOf<QPiece>;
 
-/// DQ <- ^("\"" QPiece* "\"")
-pub type DQ = List<QPiece>;
+/// The rule DQ.
+pub type DQ = Shared<List<QPiece>>;
 
 /// A part of an extended group.
 pub type GroupPart = GroupPartOf<Piece>;
 
-/// Sub <- ^("[" (Sub / Blank / ![\[\]] Piece)* "]")
-pub type Sub = List<SubPart>;
+/// The rule Sub.
+pub type Sub = Shared<List<SubPart>>;
 
-/// Ref <- Name Sub? / [0-9]+ / [@*#?$!-]
+/// The rule Ref.
 pub type Ref = RefOf<Sub>;
 
 /// The text of an arithmetic expression, with what is expanded in it.
-pub type ArithText = List<AP>;
+pub type ArithText = Shared<List<AP>>;
 
-/// Arith <- AP*
+/// The rule Arith.
 pub type Arith = ArithText;
 
-/// ArithS <- (!";" AP)*
+/// The rule ArithS.
 pub type ArithS = ArithText;
 
 /// A here-document's body, and the number of the mark that it belongs to.
@@ -101,17 +102,18 @@ pub struct HereBody {
     pub text: Shared<HereText>,
 }
 
-/// Items <- (Blank / Newline / Comment / Item)*
+/// The rule Items.
 #[cycle(tree)]
 #[derive(Drop)]
 pub struct Items {
     pub items: Shared<List<ItemOf<AndOrOf<PipeOf<Shared<Command>>>>>>,
 }
 
-/// Command <- Compound (B Redir)* / FuncDef / Coproc / Decl / Simple
+/// The rule Command.
 #[cycle(tree)]
 #[derive(Drop)]
 pub enum Command {
+    /// The Compound, and its Redirs.
     Compound(Compound, List<Redir>),
     FuncDef(FuncDefOf<Shared<Command>>),
     Coproc(CoprocOf<Shared<Command>>),
@@ -119,20 +121,14 @@ pub enum Command {
     Simple(Simple),
 }
 
-/// Compound <- ^( Kw("{") Body Kw("}") / "((" Arith "))" / "(" !"(" Body ")"
-///           / Kw("if") Body Kw("then") Body (Kw("elif") Body Kw("then") Body)* (Kw("else") Body)? Kw("fi")
-///           / (Kw("while") / Kw("until")) Body Do
-///           / Kw("for") B "((" ArithS ";" ArithS ";" ArithS "))" B ";"? Lines Do
-///           / (Kw("for") / Kw("select")) B Name (Lines Kw("in") (B Word)* B (";" / &[\n#]) / B ";"?) Lines Do
-///           / Kw("case") B Word Lines Kw("in") Lines Clause* Kw("esac")
-///           / Kw("[[") Lines Or Lines Kw("]]") )
+/// The rule Compound.
 #[cycle(tree)]
 #[derive(Drop)]
 pub enum Compound {
     /// `{ .. }`
     Group(Items),
     /// `(( .. ))`
-    Arith(List<AP>),
+    Arith(Shared<List<AP>>),
     /// `( .. )`
     Subshell(Items),
     /// The test, what is run where it holds, the further tests, and what is run where none holds.
@@ -140,8 +136,8 @@ pub enum Compound {
     While(Items, Items),
     Until(Items, Items),
     /// `for (( .. ; .. ; .. ))`
-    ForArith(List<AP>, List<AP>, List<AP>, Items),
-    /// The words behind `in`, where it stands there.
+    ForArith(Shared<List<AP>>, Shared<List<AP>>, Shared<List<AP>>, Items),
+    /// The words after `in`, where it stands there.
     For(Name, Option<List<Word>>, Items),
     Select(Name, Option<List<Word>>, Items),
     Case(Word, List<Clause>),
@@ -149,7 +145,7 @@ pub enum Compound {
     Test(OrOf<Not>),
 }
 
-/// Clause <- !Kw("esac") ("(" B)? Word (B "|" B Word)* B ")" Items (";;&" / ";;" / ";&" / &Kw("esac")) Lines
+/// The rule Clause.
 #[cycle(tree)]
 #[derive(Drop)]
 pub struct Clause {
@@ -159,7 +155,7 @@ pub struct Clause {
     pub end: ClauseEnd,
 }
 
-/// Not <- ^("!" &Blank Lines Not) / Prim
+/// The rule Not.
 #[cycle(tree)]
 #[derive(Drop)]
 pub enum Not {
@@ -167,8 +163,7 @@ pub enum Not {
     Prim(Primary),
 }
 
-/// Prim <- ^("(" Lines Or Lines ")") / Unary Blank+ !BinOp CWord
-///       / CWord (Blank+ "=~" Blank+ Regex / Blank+ BinOp Blank+ CWord)?
+/// The rule Prim.
 #[cycle(tree)]
 #[derive(Drop)]
 pub enum Primary {
@@ -180,16 +175,18 @@ pub enum Primary {
     Binary(Word, BinOp, Word),
 }
 
-/// Piece / "|" / ^("(" RIn* ")"), in a Regex
+/// A part of a Regex.
 #[cycle(tree)]
 #[derive(Drop)]
 pub enum RegexPart {
     Piece(Piece),
+    /// `|`
     Bar,
+    /// `( .. )`
     Group(List<RInOf<List<RegexPart>>>),
 }
 
-/// Decl <- ((Assign / Redir) B)* DeclName (B Redir / Blank+ (Assign / Word))*
+/// The rule Decl.
 #[cycle(tree)]
 #[derive(Drop)]
 pub struct Decl {
@@ -198,7 +195,7 @@ pub struct Decl {
     pub arguments: List<Argument>,
 }
 
-/// Assign / Redir, before a command's name
+/// What stands before a command's name.
 #[cycle(tree)]
 #[derive(Drop)]
 pub enum Prefix {
@@ -206,7 +203,7 @@ pub enum Prefix {
     Redir(Redir),
 }
 
-/// Redir / Assign / Word, behind a DeclName
+/// What stands after a DeclName.
 #[cycle(tree)]
 #[derive(Drop)]
 pub enum Argument {
@@ -215,7 +212,7 @@ pub enum Argument {
     Word(Word),
 }
 
-/// Simple <- ((Assign / Redir) B)+ Tail? / Tail
+/// The rule Simple.
 #[cycle(tree)]
 #[derive(Drop)]
 pub struct Simple {
@@ -223,7 +220,7 @@ pub struct Simple {
     pub tail: Option<Tail>,
 }
 
-/// Tail <- !Reserved !(Name "[") Word (B (Redir / Word))*
+/// The rule Tail.
 #[cycle(tree)]
 #[derive(Drop)]
 pub struct Tail {
@@ -231,7 +228,7 @@ pub struct Tail {
     pub others: List<TailPart>,
 }
 
-/// Redir / Word, behind a command's name
+/// What stands after a command's name.
 #[cycle(tree)]
 #[derive(Drop)]
 pub enum TailPart {
@@ -239,11 +236,7 @@ pub enum TailPart {
     Word(Word),
 }
 
-/// Redir <- [0-9]* ("<<<" / "<>" / "<&" / ">>" / ">&" / ">|") B Word
-///        / [0-9]* ("<<-" / "<<") B Word
-///        / [0-9]* ("<" / ">") !"(" B Word / ("&>>" / "&>") B Word
-///
-/// The digits are empty where none stand there.
+/// The rule Redir. The digits before an operator are empty where none stand there.
 #[cycle(tree)]
 #[derive(Drop)]
 pub enum Redir {
@@ -255,148 +248,167 @@ pub enum Redir {
     Both(BothOp, Word),
 }
 
-/// Assign <- Name Sub? "+"? "=" (^("(" Lines (Word Lines)* ")") / Piece*)
+/// The rule Assign.
 #[cycle(tree)]
 #[derive(Drop)]
 pub struct Assign {
     pub name: Name,
-    pub sub: Option<List<SubPart>>,
+    pub sub: Option<Shared<List<SubPart>>>,
     /// Whether `+` stands before the `=`.
     pub append: bool,
     pub value: AssignedOf<Word>,
 }
 
-/// Sub / Blank / ![\[\]] Piece, in a Sub
+/// A part of a Sub.
 #[cycle(tree)]
 #[derive(Drop)]
 pub enum SubPart {
-    Sub(List<SubPart>),
+    Sub(Shared<List<SubPart>>),
     Blank(Blank),
     Piece(Piece),
 }
 
-/// Word <- !"#" Piece+
+/// The rule Word.
 #[cycle(tree)]
 #[derive(Drop)]
 pub struct Word {
     pub pieces: Shared<List<Piece>>,
 }
 
-/// Piece <- "\\\n" / "\\" [^\n] / "'" [^']* "'" / "$'" ("\\" [^] / [^'\\])* "'"
-///        / "$"? DQ / Dollar / Back / ^(("<(" / ">(") Body ")")
-///        / ^([?*+@!] "(" (Piece / Blank / "|")* ")") / Plain
+/// The rule Piece.
 #[cycle(tree)]
 #[derive(Drop)]
 pub enum Piece {
     /// A backslash and a newline, which stand for nothing.
     Continuation,
+    /// A byte after a backslash.
     Escaped(u8),
     /// `'..'`
-    Single(Bytes),
+    Single(Shared<Bytes>),
     /// `$'..'`, the bytes as they are written.
-    Ansi(Bytes),
+    Ansi(Shared<Bytes>),
     /// `".."`, or `$".."` where the first is true.
-    Double(bool, List<QPiece>),
+    Double(bool, Shared<List<QPiece>>),
     Dollar(Dollar),
     Back(Items),
     Process(Process, Items),
     /// An extended group, with the byte before its parenthesis.
-    Group(u8, List<GroupPartOf<Piece>>),
+    Group(u8, Shared<List<GroupPartOf<Piece>>>),
     Plain(Plain),
 }
 
-/// QPiece <- "\\\n" / "\\" [$`"\\] / Dollar / Back / Lone / [^"$`]
+/// The rule QPiece.
 #[cycle(tree)]
 #[derive(Drop)]
 pub enum QPiece {
     /// A backslash and a newline, which stand for nothing.
     Continuation,
+    /// A byte after a backslash.
     Escaped(u8),
     Dollar(Dollar),
     Back(Items),
-    /// Lone <- "$" !([({@*#?$!-] / [A-Za-z0-9_])
+    /// A dollar that begins nothing.
     Lone,
     Byte(u8),
 }
 
-/// Dollar <- ^("$((" Arith "))") / ^("$(" !"(" Items ")") / ^Param / "$" Name / "$" [0-9] / "$" [@*#?$!-]
+/// The rule Dollar.
 #[cycle(tree)]
 #[derive(Drop)]
 pub enum Dollar {
-    Arith(List<AP>),
+    /// `$(( .. ))`
+    Arith(Shared<List<AP>>),
+    /// `$( .. )`
     Command(Items),
-    Param(Boxed<Param>),
-    Name(Name),
+    /// `${ .. }`
+    Param(Shared<Param>),
+    Name(Shared<Name>),
     Digit(u8),
     Special(u8),
 }
 
-/// Param <- "${#" Ref "}" / "${!" Ref [@*] "}" / "${!" Ref Op? "}" / "${" Ref Op? "}"
+/// The rule Param.
 #[cycle(tree)]
 #[derive(Drop)]
 pub enum Param {
-    Length(RefOf<List<SubPart>>),
-    /// The names that begin so, with `@` or `*`.
-    Names(RefOf<List<SubPart>>, u8),
-    Indirect(RefOf<List<SubPart>>, Option<Op>),
-    Value(RefOf<List<SubPart>>, Option<Op>),
+    /// `${#..}`
+    Length(RefOf<Shared<List<SubPart>>>),
+    /// `${!..@}`: the names that begin so, with `@` or `*`.
+    Names(RefOf<Shared<List<SubPart>>>, u8),
+    /// `${!..}`
+    Indirect(RefOf<Shared<List<SubPart>>>, Option<Op>),
+    /// `${..}`
+    Value(RefOf<Shared<List<SubPart>>>, Option<Op>),
 }
 
-/// Op <- (":-" / ":=" / ":?" / ":+" / "-" / "=" / "?" / "+") PW*
-///     / ("##" / "#" / "%%" / "%") PW*
-///     / ("//" / "/#" / "/%" / "/") (!"/" PW)* ("/" PW*)?
-///     / ("^^" / "^" / ",," / ",") PW* / "@" [A-Za-z]
-///     / ":" SW* (":" SW*)?
+/// The rule Op.
 #[cycle(tree)]
 #[derive(Drop)]
 pub enum Op {
-    Value(ValueOp, List<PW>),
-    Strip(StripOp, List<PW>),
-    /// The pattern, and what stands behind the second slash, where there is one.
-    Replace(ReplaceOp, List<PW>, Option<List<PW>>),
-    Case(CaseOp, List<PW>),
+    Value(ValueOp, Shared<List<PW>>),
+    Strip(StripOp, Shared<List<PW>>),
+    /// The pattern, and what stands after the second slash, where there is one.
+    Replace(ReplaceOp, Shared<List<PW>>, Option<Shared<List<PW>>>),
+    Case(CaseOp, Shared<List<PW>>),
+    /// `@` and this letter
     Transform(u8),
     /// The offset, and the length, where it is given.
-    Slice(List<SW>, Option<List<SW>>),
+    Slice(Shared<List<SW>>, Option<Shared<List<SW>>>),
 }
 
-/// PW <- !"}" (Piece / [ \t\n|&;()<>]); inside quotes !"}" (DQ / QPiece)
+/// The rule PW: `Piece` and `Byte` outside double quotes and here-documents, `Double` and `Quoted` inside.
 #[cycle(tree)]
 #[derive(Drop)]
 pub enum PW {
     Piece(Piece),
     Byte(u8),
-    Double(List<QPiece>),
+    Double(Shared<List<QPiece>>),
     Quoted(QPiece),
 }
 
-/// SW <- ![:}] (Dollar / Back / DQ / Lone / "\\" [^] / [^$`"\\])
+/// The rule SW.
 #[cycle(tree)]
 #[derive(Drop)]
 pub enum SW {
     Dollar(Dollar),
     Back(Items),
-    Double(List<QPiece>),
-    /// Lone <- "$" !([({@*#?$!-] / [A-Za-z0-9_])
+    Double(Shared<List<QPiece>>),
+    /// A dollar that begins nothing.
     Lone,
+    /// A byte after a backslash.
     Escaped(u8),
     Byte(u8),
 }
 
-/// AP <- ^("(" AP* ")") / Dollar / Back / Lone / "\\" [^] / [^()$`\\]
+/// The rule AP.
 #[cycle(tree)]
 #[derive(Drop)]
 pub enum AP {
-    Group(List<AP>),
+    /// `( .. )`
+    Group(Shared<List<AP>>),
     Dollar(Dollar),
     Back(Items),
-    /// Lone <- "$" !([({@*#?$!-] / [A-Za-z0-9_])
+    /// A dollar that begins nothing.
     Lone,
+    /// A byte after a backslash.
     Escaped(u8),
     Byte(u8),
 }
 
 impl Word {
+    /// The word of these pieces.
+    ///
+    /// # Errors
+    /// `Memory` where there is no room for it; the pieces are dropped then.
+    #[tactic(auto, unfolding(crate::specs::Tree::word_of_pieces))]
+    pub fn of(alloc: Global, pieces: List<Piece>) -> Result<Word, Memory>
+        ensures { IfOk result (λ word. word ≡ word_of_pieces pieces) }
+    {
+        Ok(Word {
+            pieces: Shared::new(alloc, pieces)?,
+        })
+    }
+
     /// The same word. Nothing is copied.
     ///
     /// # Errors
@@ -420,6 +432,48 @@ impl Items {
     {
         Ok(Items {
             items: self.items.share()?,
+        })
+    }
+}
+
+impl Piece {
+    /// The same piece. Nothing is copied.
+    ///
+    /// # Errors
+    /// `Memory` where the owners of what stands in it cannot be counted any more.
+    pub fn share(&self) -> Result<Piece, Memory>
+        ensures { IfOk result (λ piece. piece ≡ self.now) }
+    {
+        Ok(match self {
+            Piece::Continuation => Piece::Continuation,
+            Piece::Escaped(byte) => Piece::Escaped(*byte),
+            Piece::Single(text) => Piece::Single(text.share()?),
+            Piece::Ansi(text) => Piece::Ansi(text.share()?),
+            Piece::Double(translated, pieces) => Piece::Double(*translated, pieces.share()?),
+            Piece::Dollar(dollar) => Piece::Dollar(dollar.share()?),
+            Piece::Back(script) => Piece::Back(script.share()?),
+            Piece::Process(which, body) => Piece::Process(*which, body.share()?),
+            Piece::Group(kind, parts) => Piece::Group(*kind, parts.share()?),
+            Piece::Plain(plain) => Piece::Plain(*plain),
+        })
+    }
+}
+
+impl Dollar {
+    /// The same Dollar. Nothing is copied.
+    ///
+    /// # Errors
+    /// `Memory` where the owners of what stands in it cannot be counted any more.
+    pub fn share(&self) -> Result<Dollar, Memory>
+        ensures { IfOk result (λ dollar. dollar ≡ self.now) }
+    {
+        Ok(match self {
+            Dollar::Arith(text) => Dollar::Arith(text.share()?),
+            Dollar::Command(items) => Dollar::Command(items.share()?),
+            Dollar::Param(param) => Dollar::Param(param.share()?),
+            Dollar::Name(name) => Dollar::Name(name.share()?),
+            Dollar::Digit(digit) => Dollar::Digit(*digit),
+            Dollar::Special(byte) => Dollar::Special(*byte),
         })
     }
 }

@@ -31,12 +31,12 @@ the_former g = g
 abbrev pub the_weighed : {g : Former {0}} → Weighed g → Weighed (the_former g)
 the_weighed w = w
 
--- The fields: an address, which holds nothing, and the value behind it.
+-- The fields: an address, which holds nothing, and the value there.
 abbrev fields : Former {0}
 fields = via (pair (const Ptr) this) Inside (λ _ shared. (shared.inner.ptr, shared.inner.value))
     (λ _ parts. record { inner = record { ptr = parts.0; value = parts.1 } }) (λ _ _. refl) (λ _ _. refl)
 
--- The pointer at the same address, with another value behind it.
+-- The pointer at the same address, with another value there.
 abbrev with_value : {X Y : Type 0} → Rc X Global → Y → Rc Y Global
 with_value pointer value = record { ptr = pointer.ptr; value = value }
 

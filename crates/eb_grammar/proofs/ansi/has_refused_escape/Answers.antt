@@ -1,0 +1,26 @@
+use Rattle.std.proofs.Common.{◌∙◌, arith}
+use Rattle.std.specs.List.{list_any}
+use Rattle.eb_grammar.specs.declared.ansi.Meaning.TheVariants.{Byte, Refused}
+use Rattle.eb_grammar.specs.AnsiText.{has_refused_escape, is_refused}
+use Rattle.eb_grammar.proofs.AnsiParts.{last_part, other_part}
+use Rattle.eb_grammar.proofs.ansi.has_refused_escape.Goals as goal
+
+pub returns-in-Refused : goal.returns-in-Refused
+unfolding has_refused_escape
+returns-in-Refused c =
+    other_part (list_any is_refused) c.args.text.now c.loop-part.rest.now c.loop-part._part c.part_of-meaning.result (omega arith)
+    c.part_of-meaning.ensures.part (Refused c.in-Refused.field-0) c.in-Refused.is c.part_of-meaning.ensures.within
+    ∙ c.loop-part.invariant
+
+pub returns-in-End : goal.returns-in-End
+unfolding has_refused_escape
+returns-in-End c =
+    last_part (list_any is_refused) c.args.text.now c.loop-part.rest.now c.loop-part._part c.part_of-meaning.result (omega arith)
+    c.part_of-meaning.ensures.part c.in-End.is
+    ∙ c.loop-part.invariant
+
+pub loop-part-preserved : goal.loop-part-preserved
+loop-part-preserved c =
+    other_part (list_any is_refused) c.args.text.now c.loop-part.rest.now c.loop-part._part c.part_of-meaning.result (omega arith)
+    c.part_of-meaning.ensures.part (Byte c.in-Byte.field-0) c.in-Byte.is c.part_of-meaning.ensures.within
+    ∙ c.loop-part.invariant

@@ -1,0 +1,17 @@
+pub mod Peg
+pub mod Classes
+pub mod Rules
+pub mod Names
+pub mod Params
+pub mod Words
+pub mod ArithText
+pub mod AnsiText
+pub mod HereDocuments
+pub mod Redirections
+pub mod Conditions
+pub mod Compounds
+pub mod Fill
+pub mod Commands
+pub mod Grammar
+pub mod Laws
+pub mod Parsed

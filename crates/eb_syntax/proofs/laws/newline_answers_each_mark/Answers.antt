@@ -1,5 +1,0 @@
-use Rattle.eb_syntax.proofs.Bodies.{newline_answers}
-use Rattle.eb_syntax.proofs.laws.newline_answers_each_mark.Goals as goal
-
-pub returns : goal.returns
-returns c = newline_answers

@@ -1,5 +1,0 @@
-use Rattle.eb_syntax.proofs.Repetition.{enough}
-use Rattle.eb_syntax.proofs.laws.repetition_needs_no_bound.Goals as goal
-
-pub returns : goal.returns
-returns g c = enough
