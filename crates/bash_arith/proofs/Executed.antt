@@ -24,7 +24,7 @@ use Rattle.bash_arith.specs.Variables.{after_assignment, evaluated_text, fetched
 use Rattle.shell_vars.specs.Calls as call
 use Rattle.shell_vars.specs.Refused.{is_refused}
 use Rattle.bash_arith.proofs.Compiled.{text_is_refused, text_runs}
-use Rattle.bash_arith.proofs.Traces.{at_first, fetched_follows, left_later, run_follows, stored_follows, text_of_follows, text_value_follows}
+use Rattle.bash_arith.proofs.Traces.{at_first, fetched_follows, left_later, run_follows, stored_follows, text_of_follows, text_value_follows, then_follows}
 
 -- ---- outcomes that follow one another
 
@@ -253,6 +253,28 @@ run_ends_from n whole stack s h = ap (λ x. run n x 0 stack s) h ∙ run_ends n 
 pub incremented_so : (ev : Text → Evaluation) (w : Timing) (d : Increment) (x : Text) (at : Option ℤ) (s u : State) (z : ℤ) → last (fetched ev x at s) ≡ Ended z u → GoesOn (increment ev w d x at s) (and_then (stored x at (incremented d z) u) (λ m q. Ended (increment_value w z m) q))
 incremented_so ev w d x at s u z h = goes_then (fetched ev x at s) (λ n p. and_then (stored x at (incremented d n) p) (λ m q. Ended (increment_value w n m) q)) z u h
 
+increment_begins : (w : Timing) (d : Increment) (x : Text) (at : Option ℤ) (z : ℤ) (s : State) → Passes (and_then (stored x at (incremented d z) s) (λ m q. Ended (increment_value w z m) q)) s
+increment_begins w d x at z s = at_first (and_then (stored x at (incremented d z) s) (λ m q. Ended (increment_value w z m) q)) s (then_follows (stored x at (incremented d z) s) (λ m q. Ended (increment_value w z m) q) s (stored_follows x at (incremented d z) s) (λ m v. refl))
+
+-- the value cannot be taken
+pub increment_faults : (ev : Text → Evaluation) (w : Timing) (d : Increment) (x : Text) (at : Option ℤ) (s u : State) (fault : ArithErr) (stack after : Stack) → Tells (Err fault) (fetched ev x at s) u → Continues (Err fault) (λ next. and_then (increment ev w d x at s) (onto stack next)) after u
+increment_faults ev w d x at s u fault stack after h =
+    faults fault (increment ev w d x at s) u stack after (part_faults fault (fetched ev x at s) (λ n p. and_then (stored x at (incremented d n) p) (λ m q. Ended (increment_value w n m) q)) u (λ z p. increment_begins w d x at z p) h)
+
+-- the new number cannot be assigned
+pub assignment_faults : (ev : Text → Evaluation) (w : Timing) (d : Increment) (x : Text) (at : Option ℤ) (s u v : State) (z : ℤ) (fault : ArithErr) (stack after : Stack) → last (fetched ev x at s) ≡ Ended z u → Tells (Err fault) (stored x at (incremented d z) u) v → Continues (Err fault) (λ next. and_then (increment ev w d x at s) (onto stack next)) after v
+assignment_faults ev w d x at s u v z fault stack after h g =
+    faults fault (increment ev w d x at s) v stack after
+    (told (Err fault) (increment ev w d x at s) (and_then (stored x at (incremented d z) u) (λ m q. Ended (increment_value w z m) q)) v (incremented_so ev w d x at s u z h)
+    (part_faults fault (stored x at (incremented d z) u) (λ m q. Ended (increment_value w z m) q) v (λ m q. refl) g))
+
+pub increment_done : (ev : Text → Evaluation) (w : Timing) (d : Increment) (x : Text) (at : Option ℤ) (s u v : State) (z n : ℤ) → last (fetched ev x at s) ≡ Ended z u → last (stored x at (incremented d z) u) ≡ Ended n v → last (increment ev w d x at s) ≡ Ended (increment_value w z n) v
+increment_done ev w d x at s u v z n h g = (incremented_so ev w d x at s u z h).ends ∙ last_then (stored x at (incremented d z) u) (λ m q. Ended (increment_value w z m) q) n v g
+
+-- what is told of an assignment, with its parts under other names
+pub stored_as : (r : Result ℤ ArithErr) (y x : Text) (b a : Option ℤ) (k n : ℤ) (u v : State) → y ≡ x → b ≡ a → k ≡ n → Tells r (stored y b k u) v → Tells r (stored x a n u) v
+stored_as r y x b a k n u v i j l g = subst (λ q. Tells r (stored x a q u) v) l (subst (λ q. Tells r (stored x q k u) v) j (subst (λ q. Tells r (stored q b k u) v) i g))
+
 -- ---- assignments
 
 assigned_err : (x : Text) (at : Option ℤ) (z : ℤ) (r : VarErr) (s : State) → call.assign x at (number_text z) s.store ≡ Err r → stored x at z s ≡ Faulted (e.Var x r) s
@@ -295,7 +317,7 @@ fault_continues r fault done new u h g = subst (λ q. Continues q done new u) (s
 -- ---- the whole text
 
 -- out of memory has used no more steps than the whole evaluation does
-pub arithmetic_spent : (t : Text) (s u : State) (r : Result ℤ ArithErr) → r ≡ Err e.Memory → Tells r (arithmetic t s) u → left_of (arithmetic t s) ≤ u.left
+pub arithmetic_spent : (t : Text) (s u : State) (r : Result ℤ ArithErr) → r ≡ Err e.Memory → Tells r (text_value 64 t s) u → left_of (arithmetic t s) ≤ u.left
 unfolding arithmetic
 arithmetic_spent t s u r h g = left_later (text_value 64 t s) s u (text_value_follows 64 t s) (subst (λ q. Tells q (text_value 64 t s) u) h g)
 

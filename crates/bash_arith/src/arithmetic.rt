@@ -11,9 +11,6 @@ use shell_vars::{VarErr, Vars};
 use std::alloc::Global;
 use std::sync::ledger::Ledger;
 
-// How many nestings may be open at once.
-const MAX_NESTED: u8 = 64;
-
 /// The value of an arithmetic expression, in numbers of 64 bits that wrap (Bash Reference Manual, "Shell Arithmetic").
 ///
 /// The whole text is read before anything of it is evaluated. A name, or a name with a subscript, means its text,
@@ -23,7 +20,6 @@ const MAX_NESTED: u8 = 64;
 /// # Errors
 /// The first fault: those of reading the text come before all others, from left to right. The assignments made before
 /// it stand. `Memory` may come at any moment of the evaluation; `vars` and `budget` are then as they are at that moment.
-#[tactic(auto, unfolding(crate::specs::Value::arithmetic))]
 pub fn eval<L: Ledger>(
     alloc: Global,
     text: &[u8],
@@ -48,5 +44,5 @@ pub fn eval<L: Ledger>(
         budget,
         steps,
     };
-    machine.evaluate(text, MAX_NESTED)
+    machine.evaluate_whole(text)
 }

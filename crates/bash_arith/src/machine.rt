@@ -1,9 +1,9 @@
-ghost use Rattle.std.specs.Prelude.{◌≡◌, ℕ, [], ◌∷◌, drop, unwrap_or, IfOk, IfSome, IfNone};
+ghost use Rattle.std.specs.Prelude.{◌≡◌, ◌≤◌, ℕ, Err, [], ◌∷◌, drop, unwrap_or, IfOk, IfSome, IfNone};
 ghost use Rattle.std.specs.Option.{option_copied};
 ghost use Rattle.arith_syntax.specs.declared.instruction.Instruction.TheVariants as i;
 ghost use Rattle.bash_arith.specs.Machine as m;
-ghost use Rattle.bash_arith.specs.Outcome.{IsVar, Pays, Tells};
-ghost use Rattle.bash_arith.specs.Value.{increment_value as value_of_increment, text_value};
+ghost use Rattle.bash_arith.specs.Outcome.{IsVar, Pays, Tells, left, left_of};
+ghost use Rattle.bash_arith.specs.Value.{arithmetic, increment_value as value_of_increment, text_value};
 ghost use Rattle.bash_arith.specs.Variables.{fetched, stored};
 
 use crate::error::ArithErr;
@@ -20,6 +20,9 @@ use shell_vars::{VarErr, Vars, is_refused};
 use std::alloc::Global;
 use std::sync::ledger::Ledger;
 
+// How many nestings may be open at once.
+const MAX_NESTED: u8 = 64;
+
 /// What executes the instructions for an expression.
 #[derive(Drop)]
 pub(crate) struct Machine<'m, L: Ledger> {
@@ -32,12 +35,22 @@ pub(crate) struct Machine<'m, L: Ledger> {
 impl<'m, L: Ledger> Machine<'m, L> {
     ghost use Rattle.bash_arith.specs.Keeping.{Keeps, state_of};
 
-    /// The value of a text in which at most `nesting_left` nestings are open at once.
+    /// The value of a whole text, in which at most 64 nestings are open at once.
     ///
     /// # Errors
     /// The first fault.
+    #[tactic(auto, unfolding(crate::specs::Value::arithmetic))]
+    pub(crate) fn evaluate_whole(&mut self, text: &[u8]) -> Result<i64, ArithErr>
+        ensures means { Tells result (arithmetic text.now (state_of self.old)) (state_of self.new) }
+        ensures spent { result ≡ Err ArithErr.Memory → left_of (arithmetic text.now (state_of self.old)) ≤ left self.new.budget.now }
+        ensures keeps { Keeps self.old self.new }
+    {
+        self.evaluate(text, MAX_NESTED)
+    }
+
+    // The value of a text in which at most `nesting_left` nestings are open at once.
     #[cycle(machine)]
-    pub(crate) fn evaluate(&mut self, text: &[u8], nesting_left: u8) -> Result<i64, ArithErr>
+    fn evaluate(&mut self, text: &[u8], nesting_left: u8) -> Result<i64, ArithErr>
         ensures means { Tells result (text_value nesting_left text.now (state_of self.old)) (state_of self.new) }
         ensures keeps { Keeps self.old self.new }
     {
@@ -99,7 +112,6 @@ impl<'m, L: Ledger> Machine<'m, L> {
 
     // Takes the subscript, and puts the variable's value.
     #[cycle(machine)]
-    #[tactic(auto, using(crate::proofs::Executed::goes_on, crate::proofs::Executed::faults, crate::proofs::Executed::no_room))]
     fn fetch(
         &mut self,
         variable: &VariableRef<'_>,
@@ -135,7 +147,6 @@ impl<'m, L: Ledger> Machine<'m, L> {
 
     // Takes the subscript, increments or decrements the variable, and puts its value before or after that.
     #[cycle(machine)]
-    #[tactic(auto, using(crate::proofs::Executed::goes_on, crate::proofs::Executed::faults, crate::proofs::Executed::no_room))]
     fn increment(
         &mut self,
         timing: Timing,

@@ -1,5 +1,9 @@
 use Rattle.std.proofs.Common.{rules, ◌≡◌, ◌∙◌, ◌-◌, min, ap, sym, subst, Ok, Err, arith, FitsSigned, w64, of_z, to_z}
 use Rattle.std.proofs.lemmas.Int.{to_z-of_z}
+use Rattle.std.proofs.lemmas.Result.{err_from_is_err_and}
+use Rattle.bash_arith.specs.Numbers.{incremented}
+use Rattle.bash_arith.specs.Value.{increment, increment_value}
+use Rattle.bash_arith.specs.Variables.{stored}
 use Rattle.std.specs.Option.{option_copied}
 use Rattle.arith_syntax.specs.declared.instruction.Instruction.TheVariants as i
 use Rattle.arith_syntax.specs.Code.{program}
@@ -8,7 +12,7 @@ use Rattle.bash_arith.specs.Keeping.{state_of}
 use Rattle.bash_arith.specs.Machine as m
 use Rattle.bash_arith.specs.Outcome.{Ended, last, left}
 use Rattle.bash_arith.specs.Variables.{fetched}
-use Rattle.bash_arith.proofs.Executed.{arm, arm_of_numbers, closed_value, fetched_is, goes_on, goes_on_as, opened_value, read_fails, run_ends_from, run_fails_from, run_on_from, same_goes_on, text_runs_so, told, value_fails}
+use Rattle.bash_arith.proofs.Executed.{arm, arm_of_numbers, assignment_faults, closed_value, faults, fetched_is, goes_on, goes_on_as, increment_done, increment_faults, no_room, opened_value, read_fails, run_ends_from, run_fails_from, run_on_from, same_goes_on, stored_as, text_begins, text_runs_so, told, value_fails}
 use Rattle.bash_arith.proofs.machine.Machine.+machine.Goals as goal
 
 pub evaluate-returns-in-Err-clause-means : goal.evaluate-returns-in-Err-clause-means
@@ -95,3 +99,57 @@ run-returns-clause-means g t c =
     c.loop-instruction.invariant.means.ends
     ∙ ap last (run_ends_from c.args.nesting_left c.loop-instruction.rest.now c.loop-instruction.stack (state_of c.loop-instruction.self) (search rules))
     ∙ ap (λ z. Ended z (state_of c.loop-instruction.self)) (sym (to_z-of_z w64 c.top.result fits ∙ c.top.ensures))
+
+pub evaluate-returns-in_err-text-clause-means : goal.evaluate-returns-in_err-text-clause-means
+evaluate-returns-in_err-text-clause-means g t c =
+    let p = err_from_is_err_and c.from_residual.result c.from_residual.ensures.1 in
+    rw (p.1, p.2) (text_begins c.args.nesting_left c.args.text.now (state_of c.args.self.now))
+
+pub fetch-returns-in_err-number-clause-means : goal.fetch-returns-in_err-number-clause-means
+fetch-returns-in_err-number-clause-means g t c =
+    let p = err_from_is_err_and c.from_residual.result c.from_residual.ensures.1 in
+    rw (p.1, p.2) (faults c.in_err-number.field-0.0 (fetched (m.text_of c.args.nesting_left c.args.variable.now) c.args.variable.now.name (m.subscript c.args.variable.now c.args.stack.now) (state_of c.args.self.now)) (state_of c.value.new.self) (m.without_subscript c.args.variable.now c.args.stack.now) c.take_subscript-at.new.stack (search rules))
+
+pub fetch-returns-in_err-push-clause-means : goal.fetch-returns-in_err-push-clause-means
+fetch-returns-in_err-push-clause-means g t c =
+    let p = err_from_is_err_and c.from_residual-in_err-push.result c.from_residual-in_err-push.ensures.1 in
+    rw (p.1, p.2) (no_room (fetched (m.text_of c.args.nesting_left c.args.variable.now) c.args.variable.now.name (m.subscript c.args.variable.now c.args.stack.now) (state_of c.args.self.now)) c.in_ok-number.number (state_of c.value.new.self) (m.without_subscript c.args.variable.now c.args.stack.now) c.push.new.self (search rules))
+
+pub fetch-returns-clause-means : goal.fetch-returns-clause-means
+fetch-returns-clause-means g t c = goes_on (fetched (m.text_of c.args.nesting_left c.args.variable.now) c.args.variable.now.name (m.subscript c.args.variable.now c.args.stack.now) (state_of c.args.self.now)) c.in_ok-number.number (state_of c.value.new.self) (m.without_subscript c.args.variable.now c.args.stack.now) c.push.new.self (search rules) (search rules)
+
+pub load-returns-in_err-number-clause-means : goal.load-returns-in_err-number-clause-means
+load-returns-in_err-number-clause-means g t c =
+    let p = err_from_is_err_and c.from_residual.result c.from_residual.ensures.1 in
+    rw (p.1, p.2) (faults c.in_err-number.field-0.0 (fetched (m.text_of c.args.nesting_left c.args.variable.now) c.args.variable.now.name (m.subscript c.args.variable.now c.args.stack.now) (state_of c.args.self.now)) (state_of c.value.new.self) c.args.stack.now c.args.stack.now (search rules))
+
+pub load-returns-clause-means : goal.load-returns-clause-means
+load-returns-clause-means g t c = goes_on (fetched (m.text_of c.args.nesting_left c.args.variable.now) c.args.variable.now.name (m.subscript c.args.variable.now c.args.stack.now) (state_of c.args.self.now)) c.in_ok-number.number (state_of c.value.new.self) c.args.stack.now c.push.new.self (search rules) (search rules)
+
+pub increment-returns-in_err-before-clause-means : goal.increment-returns-in_err-before-clause-means
+increment-returns-in_err-before-clause-means g t c =
+    let p = err_from_is_err_and c.from_residual.result c.from_residual.ensures.1 in
+    rw (p.1, p.2) (increment_faults (m.text_of c.args.nesting_left c.args.variable.now) c.args.timing c.args.increment c.args.variable.now.name (m.subscript c.args.variable.now c.args.stack.now) (state_of c.args.self.now) (state_of c.value.new.self) c.in_err-before.field-0.0 (m.without_subscript c.args.variable.now c.args.stack.now) c.take_subscript-at.new.stack (search rules))
+
+pub increment-returns-in_err-after-clause-means : goal.increment-returns-in_err-after-clause-means
+increment-returns-in_err-after-clause-means g t c =
+    let fits : FitsSigned w64 c.incremented.result = search rules in
+    let fits-before : FitsSigned w64 c.in_ok-before.before = search rules in
+    let told_so = stored_as (Err c.in_err-after.field-0.0) c.as_slice.result.now c.args.variable.now.name c.take_subscript-at.result (m.subscript c.args.variable.now c.args.stack.now) (to_z w64 (of_z w64 c.incremented.result)) (incremented c.args.increment c.in_ok-before.before) (state_of c.value.new.self) (state_of c.assign.new.self) (search rules) (search rules) (to_z-of_z w64 c.incremented.result fits ∙ c.incremented.ensures ∙ ap (incremented c.args.increment) (to_z-of_z w64 c.in_ok-before.before fits-before)) c.in_err-after.ensures.means in
+    let p = err_from_is_err_and c.from_residual-in_err-after.result c.from_residual-in_err-after.ensures.1 in
+    rw (p.1, p.2) (assignment_faults (m.text_of c.args.nesting_left c.args.variable.now) c.args.timing c.args.increment c.args.variable.now.name (m.subscript c.args.variable.now c.args.stack.now) (state_of c.args.self.now) (state_of c.value.new.self) (state_of c.assign.new.self) c.in_ok-before.before c.in_err-after.field-0.0 (m.without_subscript c.args.variable.now c.args.stack.now) c.take_subscript-at.new.stack (search rules) told_so)
+
+pub increment-returns-in_err-push-clause-means : goal.increment-returns-in_err-push-clause-means
+increment-returns-in_err-push-clause-means g t c =
+    let fits : FitsSigned w64 c.incremented.result = search rules in
+    let fits-before : FitsSigned w64 c.in_ok-before.before = search rules in
+    let told_so = stored_as (Ok c.in_ok-after.after) c.as_slice.result.now c.args.variable.now.name c.take_subscript-at.result (m.subscript c.args.variable.now c.args.stack.now) (to_z w64 (of_z w64 c.incremented.result)) (incremented c.args.increment c.in_ok-before.before) (state_of c.value.new.self) (state_of c.assign.new.self) (search rules) (search rules) (to_z-of_z w64 c.incremented.result fits ∙ c.incremented.ensures ∙ ap (incremented c.args.increment) (to_z-of_z w64 c.in_ok-before.before fits-before)) c.in_ok-after.ensures.means in
+    let p = err_from_is_err_and c.from_residual-in_err-push.result c.from_residual-in_err-push.ensures.1 in
+    rw (p.1, p.2) (no_room (increment (m.text_of c.args.nesting_left c.args.variable.now) c.args.timing c.args.increment c.args.variable.now.name (m.subscript c.args.variable.now c.args.stack.now) (state_of c.args.self.now)) (increment_value c.args.timing c.in_ok-before.before c.in_ok-after.after) (state_of c.assign.new.self) (m.without_subscript c.args.variable.now c.args.stack.now) c.push.new.self (increment_done (m.text_of c.args.nesting_left c.args.variable.now) c.args.timing c.args.increment c.args.variable.now.name (m.subscript c.args.variable.now c.args.stack.now) (state_of c.args.self.now) (state_of c.value.new.self) (state_of c.assign.new.self) c.in_ok-before.before c.in_ok-after.after (search rules) told_so))
+
+pub increment-returns-clause-means : goal.increment-returns-clause-means
+increment-returns-clause-means g t c =
+    let fits : FitsSigned w64 c.incremented.result = search rules in
+    let fits-before : FitsSigned w64 c.in_ok-before.before = search rules in
+    let told_so = stored_as (Ok c.in_ok-after.after) c.as_slice.result.now c.args.variable.now.name c.take_subscript-at.result (m.subscript c.args.variable.now c.args.stack.now) (to_z w64 (of_z w64 c.incremented.result)) (incremented c.args.increment c.in_ok-before.before) (state_of c.value.new.self) (state_of c.assign.new.self) (search rules) (search rules) (to_z-of_z w64 c.incremented.result fits ∙ c.incremented.ensures ∙ ap (incremented c.args.increment) (to_z-of_z w64 c.in_ok-before.before fits-before)) c.in_ok-after.ensures.means in
+    goes_on (increment (m.text_of c.args.nesting_left c.args.variable.now) c.args.timing c.args.increment c.args.variable.now.name (m.subscript c.args.variable.now c.args.stack.now) (state_of c.args.self.now)) (increment_value c.args.timing c.in_ok-before.before c.in_ok-after.after) (state_of c.assign.new.self) (m.without_subscript c.args.variable.now c.args.stack.now) c.push.new.self (increment_done (m.text_of c.args.nesting_left c.args.variable.now) c.args.timing c.args.increment c.args.variable.now.name (m.subscript c.args.variable.now c.args.stack.now) (state_of c.args.self.now) (state_of c.value.new.self) (state_of c.assign.new.self) c.in_ok-before.before c.in_ok-after.after (search rules) told_so) (search rules)
