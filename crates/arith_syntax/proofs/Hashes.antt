@@ -1,11 +1,27 @@
 -- A constant is cut at its first `#`.
-use Rattle.std.proofs.Common.{◌≡◌, ℕ, ◌+◌, ◌-◌, ◌<◌, ◌≤◌, Bool, true, false, [], ◌∷◌, take, drop, length, Option, Some, None, refl, ap, sym, ◌∙◌, arith}
+use Rattle.std.proofs.Common.{◌≡◌, ℕ, ◌+◌, ◌-◌, ◌<◌, ◌≤◌, Bool, true, false, [], ◌∷◌, take, drop, length, Option, Some, None, refl, ap, sym, ◌∙◌, arith, cond, nat_lt}
 use Rattle.std.specs.List.{list_any, position, position_or_len}
 use Rattle.std.specs.Option.{option_and_then, option_map}
+use Rattle.std.proofs.lemmas.Bool.{ltb-true, ltb-false}
 use Rattle.std.proofs.lemmas.List.{take_rest}
 use Rattle.eb_bytes.specs.Text.{Text}
-use Rattle.eb_bytes.proofs.WordRuns.{position_none, position_some}
 use Rattle.arith_syntax.specs.Constants.{base_of, digits, is_hash, low, plain, written}
+
+-- where `position` finds one
+position_some : (p : ℕ → Bool) (t : Text) (i : ℕ) → position p t ≡ Some i → (i ≡ position_or_len p t) × (position_or_len p t < length t)
+position_some p t i e = cond_found (position_or_len p t) (length t) (nat_lt (position_or_len p t) (length t)) refl i e
+  where
+    cond_found : (n len : ℕ) (v : Bool) → nat_lt n len ≡ v → (i : ℕ) → cond v (Some n) None ≡ Some i → (i ≡ n) × (n < len)
+    cond_found n len true test i e = (cc, ltb-true n len test)
+    cond_found n len false test i e = absurd (cc)
+
+-- and where it finds none
+position_none : (p : ℕ → Bool) (t : Text) → position p t ≡ None → length t ≤ position_or_len p t
+position_none p t e = cond_missed (position_or_len p t) (length t) (nat_lt (position_or_len p t) (length t)) refl e
+  where
+    cond_missed : (n len : ℕ) (v : Bool) → nat_lt n len ≡ v → cond v (Some n) None ≡ None → len ≤ n
+    cond_missed n len true test e = absurd (cc)
+    cond_missed n len false test e = ltb-false n len test
 
 any_found : (p : ℕ → Bool) (t : Text) → position_or_len p t < length t → list_any p t ≡ true
 any_found p [] within = absurd (omega arith)

@@ -3,27 +3,27 @@ use Rattle.std.proofs.Common.{◌≡◌, ℕ, pos, List, [], ◌∷◌, Some, No
 use Prim.Native.String.{String}
 use Rattle.arith_syntax.specs.declared.operator.Operator.{Operator}
 use Rattle.arith_syntax.specs.declared.operator.Operator.TheVariants.{Add, Subtract, Multiply, Less, ShiftLeft, BitAnd, BitOr, Equal}
-use Rattle.arith_syntax.specs.declared.operator.Joint.TheVariants.{Comma, Or, And, Both}
+use Rattle.arith_syntax.specs.declared.operator.BinaryOperator.TheVariants.{Comma, Or, And, Both}
 use Rattle.arith_syntax.specs.declared.operator.Sign.TheVariants.{Minus, Not, Complement}
-use Rattle.arith_syntax.specs.declared.operator.Direction.TheVariants.{Up, Down}
-use Rattle.arith_syntax.specs.declared.operator.When.TheVariants.{Later, First}
-use Rattle.arith_syntax.specs.declared.reader.Refusal.{Refusal}
-use Rattle.arith_syntax.specs.declared.reader.Refusal.TheVariants.{Syntax, Nesting}
-use Rattle.arith_syntax.specs.Expression.{Expression, Variable, Named, Element, Nothing, Constant, Meant, Opened, Signed, Stepped, Raised, Joined, Chosen, Assigned}
+use Rattle.arith_syntax.specs.declared.operator.Increment.TheVariants.{Up, Down}
+use Rattle.arith_syntax.specs.declared.operator.Timing.TheVariants.{Post, Pre}
+use Rattle.arith_syntax.specs.declared.error.Refusal.{Refusal}
+use Rattle.arith_syntax.specs.declared.error.Refusal.TheVariants.{Syntax, Nesting}
+use Rattle.arith_syntax.specs.Expression.{Expression, Variable, Named, Element, Nothing, Constant, ValueOf, Opened, Signed, Incremented, Raised, Joined, Chosen, Assigned}
 use Rattle.std.specs.Int.{int_wrap}
 use Rattle.arith_syntax.specs.Names.{after_blanks, name_at}
 use Rattle.arith_syntax.specs.Constants.{written, constant_of}
-use Rattle.arith_syntax.specs.Symbols.{step_behind, step_before, symbol_at}
-use Rattle.arith_syntax.specs.Reading.{operand, power, joint_at, grown, joined, binary, conditional, assignment, whole, reading, expression}
+use Rattle.arith_syntax.specs.Symbols.{post_increment, pre_increment, symbol_at}
+use Rattle.arith_syntax.specs.Reading.{operand, power, binary_operator_at, grown, joined, binary, conditional, assignment, whole, reading, expression}
 
 abbrev named : String → Variable
 named text = Named (codes text)
 
 abbrev x : Expression
-x = Meant (named "x")
+x = ValueOf (named "x")
 
 abbrev y : Expression
-y = Meant (named "y")
+y = ValueOf (named "y")
 
 abbrev n : ℕ → Expression
 n k = Constant (pos k)
@@ -43,7 +43,7 @@ precedence : map (read 64) ("1+2*3" ∷ "1*2+3" ∷ "1-2-3" ∷ "1<2<<3" ∷ "1|
     ∷ Ok (Joined Or (n 1) (Joined And (n 2) (n 0)))
     ∷ Ok (Joined Comma (n 1) (n 2))
     ∷ Ok (both Equal (n 1) (n 2)) ∷ []
-unfolding expression after_blanks reading whole joined assignment conditional binary power operand step_before step_behind constant_of written symbol_at grown joint_at name_at int_wrap
+unfolding expression after_blanks reading whole joined assignment conditional binary power operand pre_increment post_increment constant_of written symbol_at grown binary_operator_at name_at int_wrap
 precedence = refl
 
 nested : map (read 64) ("2**3**2" ∷ "-2**2" ∷ "2**-1" ∷ "(x)" ∷ "a[x]" ∷ "a[]" ∷ "a[ ]" ∷ "x?1:y?2:3" ∷ "x=y=1" ∷ "x+=1,y" ∷ "!~x" ∷ [])
@@ -51,33 +51,33 @@ nested : map (read 64) ("2**3**2" ∷ "-2**2" ∷ "2**-1" ∷ "(x)" ∷ "a[x]" �
     ∷ Ok (Raised (Signed Minus (Opened (n 2))) (Opened (n 2)))
     ∷ Ok (Raised (n 2) (Opened (Signed Minus (Opened (n 1)))))
     ∷ Ok (Opened x)
-    ∷ Ok (Meant (Element (codes "a") (Opened x)))
-    ∷ Ok (Meant (Element (codes "a") (Opened Nothing)))
-    ∷ Ok (Meant (Element (codes "a") (Opened Nothing)))
+    ∷ Ok (ValueOf (Element (codes "a") (Opened x)))
+    ∷ Ok (ValueOf (Element (codes "a") (Opened Nothing)))
+    ∷ Ok (ValueOf (Element (codes "a") (Opened Nothing)))
     ∷ Ok (Chosen x (Opened (n 1)) (Opened (Chosen y (Opened (n 2)) (Opened (n 3)))))
     ∷ Ok (Assigned None (named "x") (Opened (Assigned None (named "y") (Opened (n 1)))))
     ∷ Ok (Joined Comma (Assigned (Some Add) (named "x") (Opened (n 1))) y)
     ∷ Ok (Signed Not (Opened (Signed Complement (Opened x)))) ∷ []
-unfolding expression after_blanks reading whole joined assignment conditional binary power operand step_before step_behind constant_of written symbol_at grown joint_at name_at int_wrap
+unfolding expression after_blanks reading whole joined assignment conditional binary power operand pre_increment post_increment constant_of written symbol_at grown binary_operator_at name_at int_wrap
 nested = refl
 
 steps : map (read 64) ("x++" ∷ "++x" ∷ "x -- " ∷ "- --x" ∷ "--5" ∷ "5--3" ∷ "x+++y" ∷ "x+++++y" ∷ "x- -1" ∷ "a[1]++" ∷ [])
-    ≡ Ok (Stepped Later Up (named "x"))
-    ∷ Ok (Opened (Stepped First Up (named "x")))
-    ∷ Ok (Stepped Later Down (named "x"))
-    ∷ Ok (Signed Minus (Opened (Opened (Stepped First Down (named "x")))))
+    ≡ Ok (Incremented Post Up (named "x"))
+    ∷ Ok (Opened (Incremented Pre Up (named "x")))
+    ∷ Ok (Incremented Post Down (named "x"))
+    ∷ Ok (Signed Minus (Opened (Opened (Incremented Pre Down (named "x")))))
     ∷ Ok (Signed Minus (Opened (Signed Minus (Opened (n 5)))))
     ∷ Ok (both Subtract (n 5) (Signed Minus (Opened (n 3))))
-    ∷ Ok (both Add (Stepped Later Up (named "x")) y)
-    ∷ Ok (both Add (Stepped Later Up (named "x")) (Opened (Stepped First Up (named "y"))))
+    ∷ Ok (both Add (Incremented Post Up (named "x")) y)
+    ∷ Ok (both Add (Incremented Post Up (named "x")) (Opened (Incremented Pre Up (named "y"))))
     ∷ Ok (both Subtract x (Signed Minus (Opened (n 1))))
-    ∷ Ok (Stepped Later Up (Element (codes "a") (Opened (n 1)))) ∷ []
-unfolding expression after_blanks reading whole joined assignment conditional binary power operand step_before step_behind constant_of written symbol_at grown joint_at name_at int_wrap
+    ∷ Ok (Incremented Post Up (Element (codes "a") (Opened (n 1)))) ∷ []
+unfolding expression after_blanks reading whole joined assignment conditional binary power operand pre_increment post_increment constant_of written symbol_at grown binary_operator_at name_at int_wrap
 steps = refl
 
 plain : map (read 64) ("" ∷ " \t\n" ∷ "\"\"" ∷ "1\"2\"" ∷ "0x1F" ∷ "0X1f" ∷ "010" ∷ "0" ∷ "16#ff" ∷ "37#A" ∷ "36#Z" ∷ "64#_" ∷ [])
     ≡ Ok Nothing ∷ Ok Nothing ∷ Ok Nothing ∷ Ok (n 12) ∷ Ok (n 31) ∷ Ok (n 31) ∷ Ok (n 8) ∷ Ok (n 0) ∷ Ok (n 255) ∷ Ok (n 36) ∷ Ok (n 35) ∷ Ok (n 63) ∷ []
-unfolding expression after_blanks reading whole joined assignment conditional binary power operand step_before step_behind constant_of written symbol_at grown joint_at name_at int_wrap
+unfolding expression after_blanks reading whole joined assignment conditional binary power operand pre_increment post_increment constant_of written symbol_at grown binary_operator_at name_at int_wrap
 plain = refl
 
 abbrev refused : Refusal → Result Expression Refusal
@@ -87,12 +87,12 @@ abbrev bad : List String
 bad = "08" ∷ "0x" ∷ "10#" ∷ "1#0" ∷ "65#1" ∷ "010#1" ∷ "1a" ∷ "2#2" ∷ "()" ∷ "(1" ∷ "1)" ∷ "1 2" ∷ "1=2" ∷ "(x)=1" ∷ "x++=1" ∷ "1+x=2" ∷ "x?1:y=2" ∷ "x?1" ∷ "x?:1" ∷ "x--5" ∷ "5--x" ∷ "x++ ++" ∷ "++x++" ∷ "++x++ 5" ∷ "--x--y" ∷ "++a[0]-- 1" ∷ "a [1]" ∷ "a[1" ∷ "$x" ∷ "x**=2" ∷ "x==" ∷ "1;2" ∷ []
 
 not_read : map (read 64) bad ≡ map (λ text. refused Syntax) bad
-unfolding expression after_blanks reading whole joined assignment conditional binary power operand step_before step_behind constant_of written symbol_at grown joint_at name_at int_wrap
+unfolding expression after_blanks reading whole joined assignment conditional binary power operand pre_increment post_increment constant_of written symbol_at grown binary_operator_at name_at int_wrap
 not_read = refl
 
 too_deep : map (read 1) ("(1)" ∷ "((1))" ∷ "-1" ∷ "--1" ∷ "++x" ∷ "-++x" ∷ "a[a[" ∷ "x=1" ∷ "x=y=1" ∷ "2**3" ∷ "2**3**" ∷ "x?1:2" ∷ "x?1:(2)" ∷ "x?(1)" ∷ ")((" ∷ "1 ((" ∷ "08((" ∷ [])
-    ≡ Ok (Opened (n 1)) ∷ refused Nesting ∷ Ok (Signed Minus (Opened (n 1))) ∷ refused Nesting ∷ Ok (Opened (Stepped First Up (named "x"))) ∷ refused Nesting ∷ refused Nesting
+    ≡ Ok (Opened (n 1)) ∷ refused Nesting ∷ Ok (Signed Minus (Opened (n 1))) ∷ refused Nesting ∷ Ok (Opened (Incremented Pre Up (named "x"))) ∷ refused Nesting ∷ refused Nesting
     ∷ Ok (Assigned None (named "x") (Opened (n 1))) ∷ refused Nesting ∷ Ok (Raised (n 2) (Opened (n 3))) ∷ refused Nesting ∷ Ok (Chosen x (Opened (n 1)) (Opened (n 2))) ∷ refused Nesting ∷ refused Nesting
     ∷ refused Syntax ∷ refused Syntax ∷ refused Syntax ∷ []
-unfolding expression after_blanks reading whole joined assignment conditional binary power operand step_before step_behind constant_of written symbol_at grown joint_at name_at int_wrap
+unfolding expression after_blanks reading whole joined assignment conditional binary power operand pre_increment post_increment constant_of written symbol_at grown binary_operator_at name_at int_wrap
 too_deep = refl

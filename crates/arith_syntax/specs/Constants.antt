@@ -3,14 +3,14 @@ use Rattle.std.specs.Prelude.{ℕ, ℤ, pos, ◌+◌, ◌-◌, ◌*◌, ◌%◌,
 use Rattle.std.specs.Int.{int_wrap, w64}
 use Rattle.std.specs.List.{prefix_len, list_any, starts_with}
 use Rattle.std.specs.Option.{option_map, option_and_then}
+use Rattle.eb_bytes.specs.Class.{is_digit, is_lower, is_upper, is_name_byte}
 use Rattle.eb_bytes.specs.Text.{Text}
-use Rattle.arith_syntax.specs.Names.{is_digit, is_lower, is_upper, is_name_byte}
 
 -- what may stand in a constant: digits, letters, `_`, `@` and `#`
 abbrev pub is_constant_byte : ℕ → Bool
 is_constant_byte b = is_name_byte b || b == 64 || b == 35
 
--- what a digit counts: 0 to 9, then the letters, and behind them `@` and `_`; capitals are letters of their own only in a
+-- what a digit counts: 0 to 9, then the letters, and after them `@` and `_`; capitals are letters of their own only in a
 -- base above 36
 abbrev pub digit_value : ℕ → ℕ → Option ℕ
 digit_value base b =
@@ -26,15 +26,15 @@ is_below base d = if nat_lt d base then Some d else None
 abbrev pub digit_of : ℕ → ℕ → Option ℕ
 digit_of base b = option_and_then (is_below base) (digit_value base b)
 
--- the number that digits write behind those that write `n`; none, where one of them is no digit of the base
-abbrev pub digits_behind : ℕ → ℕ → Text → Option ℕ
-digits_behind base n [] = Some n
-digits_behind base n (b ∷ t) = option_and_then (λ d. digits_behind base (n * base + d) t) (digit_of base b)
+-- the number that digits write after those that write `n`; none, where one of them is no digit of the base
+abbrev pub digits_after : ℕ → ℕ → Text → Option ℕ
+digits_after base n [] = Some n
+digits_after base n (b ∷ t) = option_and_then (λ d. digits_after base (n * base + d) t) (digit_of base b)
 
 -- the number that at least one digit writes
 abbrev pub digits : ℕ → Text → Option ℕ
 digits base [] = None
-digits base (b ∷ t) = digits_behind base 0 (b ∷ t)
+digits base (b ∷ t) = digits_after base 0 (b ∷ t)
 
 abbrev pub is_base : ℕ → Option ℕ
 is_base n = if nat_le 2 n && nat_le n 64 then Some n else None
@@ -53,12 +53,12 @@ is_hash b = b == 35
 abbrev pub before_hash : Text → Text
 before_hash w = take (prefix_len (λ b. not (is_hash b)) w) w
 
-abbrev pub behind_hash : Text → Text
-behind_hash w = drop (prefix_len (λ b. not (is_hash b)) w + 1) w
+abbrev pub after_hash : Text → Text
+after_hash w = drop (prefix_len (λ b. not (is_hash b)) w + 1) w
 
 -- `base#digits`
 abbrev pub based : Text → Option ℕ
-based w = option_and_then (λ base. digits base (behind_hash w)) (base_of (before_hash w))
+based w = option_and_then (λ base. digits base (after_hash w)) (base_of (before_hash w))
 
 abbrev pub is_hexadecimal : Text → Bool
 is_hexadecimal w = starts_with nat_eq w (codes "0x") || starts_with nat_eq w (codes "0X")

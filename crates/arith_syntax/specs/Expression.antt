@@ -2,10 +2,10 @@
 use Rattle.std.specs.Prelude.{ℤ, Option}
 use Rattle.eb_bytes.specs.Text.{Text}
 use Rattle.arith_syntax.specs.declared.operator.Operator.{Operator}
-use Rattle.arith_syntax.specs.declared.operator.Joint.{Joint}
+use Rattle.arith_syntax.specs.declared.operator.BinaryOperator.{BinaryOperator}
 use Rattle.arith_syntax.specs.declared.operator.Sign.{Sign}
-use Rattle.arith_syntax.specs.declared.operator.Direction.{Direction}
-use Rattle.arith_syntax.specs.declared.operator.When.{When}
+use Rattle.arith_syntax.specs.declared.operator.Increment.{Increment}
+use Rattle.arith_syntax.specs.declared.operator.Timing.{Timing}
 
 mutual
   -- a name, or a name with a subscript
@@ -19,15 +19,15 @@ mutual
     -- the empty expression
     Nothing : Expression
     Constant : ℤ → Expression
-    -- what a variable means
-    Meant : Variable → Expression
+    -- the value of a variable
+    ValueOf : Variable → Expression
     Opened : Expression → Expression
     Signed : Sign → Expression → Expression
     -- `++` or `--` of a variable
-    Stepped : When → Direction → Variable → Expression
+    Incremented : Timing → Increment → Variable → Expression
     -- `**`
     Raised : Expression → Expression → Expression
-    Joined : Joint → Expression → Expression → Expression
+    Joined : BinaryOperator → Expression → Expression → Expression
     -- `?:`
     Chosen : Expression → Expression → Expression → Expression
     -- `=`, or an operator and `=`

@@ -4,44 +4,44 @@ use Rattle.std.specs.List.{starts_with}
 use Rattle.eb_bytes.specs.Text.{Text}
 use Rattle.arith_syntax.specs.declared.operator.Operator.{Operator}
 use Rattle.arith_syntax.specs.declared.operator.Operator.TheVariants.{BitOr, BitXor, BitAnd, Equal, NotEqual, Less, LessOrEqual, Greater, GreaterOrEqual, ShiftLeft, ShiftRight, Add, Subtract, Multiply, Divide, Remainder}
-use Rattle.arith_syntax.specs.declared.operator.Joint.{Joint}
-use Rattle.arith_syntax.specs.declared.operator.Joint.TheVariants.{Comma, Or, And, Both}
+use Rattle.arith_syntax.specs.declared.operator.BinaryOperator.{BinaryOperator}
+use Rattle.arith_syntax.specs.declared.operator.BinaryOperator.TheVariants.{Comma, Or, And, Both}
 use Rattle.arith_syntax.specs.declared.operator.Symbol.{Symbol}
 use Rattle.arith_syntax.specs.declared.operator.Symbol.TheVariants as symbol
 use Rattle.arith_syntax.specs.declared.operator.Sign.{Sign}
 use Rattle.arith_syntax.specs.declared.operator.Sign.TheVariants as sign
-use Rattle.arith_syntax.specs.declared.operator.Direction.{Direction}
-use Rattle.arith_syntax.specs.declared.operator.Direction.TheVariants.{Up, Down}
+use Rattle.arith_syntax.specs.declared.operator.Increment.{Increment}
+use Rattle.arith_syntax.specs.declared.operator.Increment.TheVariants.{Up, Down}
 use Rattle.arith_syntax.specs.Names.{after_blanks, begins_name}
 
--- how loosely an operator that groups from the left binds: the least binds most tightly
-abbrev pub operator_looseness : Operator → ℕ
-operator_looseness Multiply = 1
-operator_looseness Divide = 1
-operator_looseness Remainder = 1
-operator_looseness Add = 2
-operator_looseness Subtract = 2
-operator_looseness ShiftLeft = 3
-operator_looseness ShiftRight = 3
-operator_looseness Less = 4
-operator_looseness LessOrEqual = 4
-operator_looseness Greater = 4
-operator_looseness GreaterOrEqual = 4
-operator_looseness Equal = 5
-operator_looseness NotEqual = 5
-operator_looseness BitAnd = 6
-operator_looseness BitXor = 7
-operator_looseness BitOr = 8
+-- the precedence of a binary operator that groups from the left: 1 is the tightest
+abbrev pub operator_precedence : Operator → ℕ
+operator_precedence Multiply = 1
+operator_precedence Divide = 1
+operator_precedence Remainder = 1
+operator_precedence Add = 2
+operator_precedence Subtract = 2
+operator_precedence ShiftLeft = 3
+operator_precedence ShiftRight = 3
+operator_precedence Less = 4
+operator_precedence LessOrEqual = 4
+operator_precedence Greater = 4
+operator_precedence GreaterOrEqual = 4
+operator_precedence Equal = 5
+operator_precedence NotEqual = 5
+operator_precedence BitAnd = 6
+operator_precedence BitXor = 7
+operator_precedence BitOr = 8
 
-abbrev pub looseness : Joint → ℕ
-looseness (Both o) = operator_looseness o
-looseness And = 9
-looseness Or = 10
-looseness Comma = 11
+abbrev pub precedence : BinaryOperator → ℕ
+precedence (Both o) = operator_precedence o
+precedence And = 9
+precedence Or = 10
+precedence Comma = 11
 
 -- what an operator is written as; a longer one stands before each that it begins with
 abbrev pub both : Operator → Symbol
-both o = symbol.Joint (Both o)
+both o = symbol.Binary (Both o)
 
 abbrev pub assigning : Operator → Symbol
 assigning o = symbol.Assign (Some o)
@@ -52,42 +52,42 @@ symbols =
     ∷ (codes "**", symbol.Power) ∷ (codes "*=", assigning Multiply) ∷ (codes "/=", assigning Divide)
     ∷ (codes "%=", assigning Remainder) ∷ (codes "+=", assigning Add) ∷ (codes "-=", assigning Subtract)
     ∷ (codes "&=", assigning BitAnd) ∷ (codes "^=", assigning BitXor) ∷ (codes "|=", assigning BitOr)
-    ∷ (codes "||", symbol.Joint Or) ∷ (codes "&&", symbol.Joint And) ∷ (codes "<<", both ShiftLeft)
+    ∷ (codes "||", symbol.Binary Or) ∷ (codes "&&", symbol.Binary And) ∷ (codes "<<", both ShiftLeft)
     ∷ (codes ">>", both ShiftRight) ∷ (codes "==", both Equal) ∷ (codes "!=", both NotEqual)
     ∷ (codes "<=", both LessOrEqual) ∷ (codes ">=", both GreaterOrEqual)
     ∷ (codes "*", both Multiply) ∷ (codes "/", both Divide) ∷ (codes "%", both Remainder)
     ∷ (codes "+", both Add) ∷ (codes "-", both Subtract) ∷ (codes "<", both Less) ∷ (codes ">", both Greater)
     ∷ (codes "&", both BitAnd) ∷ (codes "^", both BitXor) ∷ (codes "|", both BitOr)
     ∷ (codes "=", symbol.Assign None) ∷ (codes "?", symbol.Question) ∷ (codes ":", symbol.Colon)
-    ∷ (codes ",", symbol.Joint Comma) ∷ []
+    ∷ (codes ",", symbol.Binary Comma) ∷ []
 
 abbrev pub signs : List (Text × Sign)
 signs = (codes "!", sign.Not) ∷ (codes "~", sign.Complement) ∷ (codes "+", sign.Plus) ∷ (codes "-", sign.Minus) ∷ []
 
-abbrev pub steps : List (Text × Direction)
-steps = (codes "++", Up) ∷ (codes "--", Down) ∷ []
+abbrev pub increments : List (Text × Increment)
+increments = (codes "++", Up) ∷ (codes "--", Down) ∷ []
 
--- the first of these that the text begins with, and what stands behind it
+-- the first of these that the text begins with, and what follows it
 abbrev pub first_of : {A : Type 0} → List (Text × A) → Text → Option (A × Text)
 first_of [] t = None
 first_of (w ∷ ws) t = if starts_with nat_eq t w.0 then Some (w.1, drop (length w.0) t) else first_of ws t
 
--- a step that stands behind a variable: the `++` or `--` there
-unfoldable pub step_behind : Text → Option (Direction × Text)
-step_behind t = first_of steps (after_blanks t)
+-- the `++` or `--` that follows a variable
+unfoldable pub post_increment : Text → Option (Increment × Text)
+post_increment t = first_of increments (after_blanks t)
 
-abbrev pub before_name : Option (Direction × Text) → Option (Direction × Text)
+abbrev pub before_name : Option (Increment × Text) → Option (Increment × Text)
 before_name None = None
 before_name (Some s) = if begins_name (after_blanks s.1) then Some (s.0, after_blanks s.1) else None
 
--- a step that stands before a variable: where no name follows, `++` and `--` are two signs
-unfoldable pub step_before : Text → Option (Direction × Text)
-step_before t = before_name (first_of steps (after_blanks t))
+-- the `++` or `--` before a variable: where no name follows, it is two signs
+unfoldable pub pre_increment : Text → Option (Increment × Text)
+pre_increment t = before_name (first_of increments (after_blanks t))
 
-abbrev pub unless_step : Option (Direction × Text) → Option (Symbol × Text) → Option (Symbol × Text)
-unless_step None found = found
-unless_step (Some s) found = None
+abbrev pub unless_increment : Option (Increment × Text) → Option (Symbol × Text) → Option (Symbol × Text)
+unless_increment None found = found
+unless_increment (Some s) found = None
 
--- the operator that stands behind an operand; a step that belongs to a variable behind it is none
+-- the operator that follows an operand; a `++` or `--` before a variable is none
 unfoldable pub symbol_at : Text → Option (Symbol × Text)
-symbol_at t = unless_step (step_before t) (first_of symbols (after_blanks t))
+symbol_at t = unless_increment (pre_increment t) (first_of symbols (after_blanks t))

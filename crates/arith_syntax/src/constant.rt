@@ -1,11 +1,11 @@
 ghost use Rattle.std.specs.Prelude.{◌≡◌, take, drop, position};
 ghost use Rattle.std.specs.Option.{option_and_then, option_map};
-ghost use Rattle.arith_syntax.specs.Constants.{at_most_64, base_of, constant_len, constant_of, digit_of, digit_value, digits, digits_behind, is_constant_byte as constant_byte, is_hash, low, plain, written};
+ghost use Rattle.arith_syntax.specs.Constants.{at_most_64, base_of, constant_len, constant_of, digit_of, digit_value, digits, digits_after, is_constant_byte as constant_byte, is_hash, low, plain, written};
 
-use crate::name::is_name_byte;
+use eb_bytes::is_name_byte;
 
-/// What the constant at the front of the text stands for, as far as bytes of constants go, and what stands behind it
-/// (Bash Reference Manual, "Shell Arithmetic"): a number in base 10, in base 8 behind `0`, in base 16 behind `0x`, or
+/// What the constant at the front of the text stands for, as far as bytes of constants go, and what follows it (Bash
+/// Reference Manual, "Shell Arithmetic"): a number in base 10, in base 8 after `0`, in base 16 after `0x`, or
 /// `base#digits` in a base from 2 to 64. A number of more than 64 bits wraps. Nothing where it is not well formed.
 pub(crate) fn constant_at(text: &[u8]) -> (Option<i64>, &[u8])
     ensures number { result.0 ≡ constant_of (take (constant_len text.now) text.now) }
@@ -85,7 +85,7 @@ fn base_of(text: &[u8]) -> Option<u64>
 
 // The number that decimal digits write, where it is at most 64.
 fn number_to_64(text: &[u8]) -> Option<u64>
-    ensures { result ≡ option_and_then at_most_64 (digits_behind 10 0 text.now) }
+    ensures { result ≡ option_and_then at_most_64 (digits_after 10 0 text.now) }
 {
     let mut number = 0;
     for byte in text {
@@ -109,7 +109,7 @@ fn digits(base: u64, text: &[u8]) -> Option<u64>
 
 // The lowest 64 bits of the number that digits write, and 0 where there are none.
 fn any_digits(base: u64, text: &[u8]) -> Option<u64>
-    ensures { result ≡ option_map low (digits_behind base 0 text.now) }
+    ensures { result ≡ option_map low (digits_after base 0 text.now) }
 {
     let mut number = 0u64;
     for byte in text {

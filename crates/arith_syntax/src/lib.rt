@@ -3,17 +3,20 @@
 #![tactic(auto)]
 
 mod constant;
+mod error;
 mod instruction;
 mod name;
 mod operator;
 mod past;
 mod put;
+mod quotes;
 mod reader;
 mod rule;
 mod symbol;
-#[cfg(test)]
-mod tests;
 
-pub use instruction::{Instruction, Place};
-pub use operator::{Direction, Joint, Operator, Sign, Symbol, When};
-pub use reader::{ReadErr, Refusal, read};
+pub use error::{ReadErr, Refusal};
+pub use instruction::{Instruction, VariableRef};
+pub use name::Name;
+pub use operator::{BinaryOperator, Increment, Operator, Sign, Symbol, Timing};
+pub use quotes::without_quotes;
+pub use reader::read;

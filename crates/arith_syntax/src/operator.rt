@@ -1,4 +1,4 @@
-/// An operator that takes both its sides.
+/// An operator of two numbers, which are always both evaluated.
 #[derive(Clone, Copy, Debug, PartialEq, Eq)]
 pub enum Operator {
     /// `|`
@@ -35,24 +35,24 @@ pub enum Operator {
     Remainder,
 }
 
-/// An operator that groups from the left.
+/// A binary operator that groups from the left.
 #[derive(Clone, Copy, Debug, PartialEq, Eq)]
-pub enum Joint {
+pub enum BinaryOperator {
     /// `,`
     Comma,
     /// `||`
     Or,
     /// `&&`
     And,
-    /// One that takes both its sides.
+    /// One that always evaluates both its sides, to a number each.
     Both(Operator),
 }
 
-/// What may stand behind an operand.
+/// What may follow an operand.
 #[derive(Clone, Copy, Debug, PartialEq, Eq)]
 pub enum Symbol {
-    /// An operator that groups from the left.
-    Joint(Joint),
+    /// A binary operator that groups from the left.
+    Binary(BinaryOperator),
     /// `**`
     Power,
     /// `?`
@@ -63,7 +63,7 @@ pub enum Symbol {
     Assign(Option<Operator>),
 }
 
-/// What may stand before an operand.
+/// A unary operator, which stands before an operand.
 #[derive(Clone, Copy, Debug, PartialEq, Eq)]
 pub enum Sign {
     /// `!`
@@ -76,20 +76,20 @@ pub enum Sign {
     Minus,
 }
 
-/// Which way a variable is stepped.
+/// An increment or a decrement.
 #[derive(Clone, Copy, Debug, PartialEq, Eq)]
-pub enum Direction {
+pub enum Increment {
     /// `++`
     Up,
     /// `--`
     Down,
 }
 
-/// Whether a step's value is the number before it or the one behind it.
+/// Whether a variable is incremented before or after its value is taken.
 #[derive(Clone, Copy, Debug, PartialEq, Eq)]
-pub enum When {
-    /// `x++`, `x--`: the number before the step
-    Later,
-    /// `++x`, `--x`: the number behind the step
-    First,
+pub enum Timing {
+    /// `++x`, `--x`: the value is the number after the increment
+    Pre,
+    /// `x++`, `x--`: the value is the number before the increment
+    Post,
 }

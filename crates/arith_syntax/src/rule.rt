@@ -1,4 +1,4 @@
-use crate::operator::Direction;
+use crate::operator::Increment;
 
 /// What may stand one nesting deeper.
 #[derive(Clone, Copy, Debug, PartialEq, Eq)]
@@ -15,6 +15,6 @@ pub enum Rule {
     Power,
     /// What a sign acts on
     Operand,
-    /// A variable that is stepped first
-    Stepping(Direction),
+    /// A variable with `++` or `--` before it
+    PreIncrement(Increment),
 }

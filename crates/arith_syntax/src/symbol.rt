@@ -1,23 +1,23 @@
 ghost use Rattle.std.specs.Prelude.{◌≡◌, ◌∷◌, Some};
 ghost use Rattle.std.specs.Option.{option_map};
-ghost use Rattle.arith_syntax.specs.Symbols.{first_of, signs, steps, symbols, step_before, step_behind, symbol_at};
+ghost use Rattle.arith_syntax.specs.Symbols.{first_of, signs, increments, symbols, pre_increment, post_increment, symbol_at};
 ghost use Rattle.arith_syntax.specs.Tails.{assignable, comparing, doubling};
 
 use crate::name::{after_blanks, begins_name};
-use crate::operator::{Direction, Joint, Operator, Sign, Symbol};
+use crate::operator::{BinaryOperator, Increment, Operator, Sign, Symbol};
 
-/// The operator behind an operand that the text begins with, blanks aside, and what stands behind it (Bash Reference
-/// Manual, "Shell Arithmetic"). A step that belongs to a variable behind it is none.
+/// The operator after an operand that the text begins with, blanks aside, and what follows it (Bash Reference Manual,
+/// "Shell Arithmetic"). `++` or `--` before a variable is none.
 pub(crate) fn symbol_at(text: &[u8]) -> Option<(Symbol, &[u8])>
     ensures { option_map (λ s. (s.0, s.1.now)) result ≡ symbol_at text.now }
 {
-    match step_before(text) {
+    match pre_increment(text) {
         Some(_) => None,
         None => first_symbol(after_blanks(text)),
     }
 }
 
-/// The sign that the text begins with, and what stands behind it.
+/// The unary operator that the text begins with, and what follows it.
 pub(crate) fn sign_at(text: &[u8]) -> Option<(Sign, &[u8])>
     ensures { option_map (λ s. (s.0, s.1.now)) result ≡ first_of signs text.now }
 {
@@ -30,32 +30,32 @@ pub(crate) fn sign_at(text: &[u8]) -> Option<(Sign, &[u8])>
     }
 }
 
-/// The step before a variable that the text begins with, blanks aside, and the text from the variable's name on. Where
-/// no name follows, `++` and `--` are two signs.
-pub(crate) fn step_before(text: &[u8]) -> Option<(Direction, &[u8])>
-    ensures { option_map (λ s. (s.0, s.1.now)) result ≡ step_before text.now }
+/// The `++` or `--` before a variable that the text begins with, blanks aside, and the text from the variable's name on.
+/// Where no name follows, they are two signs.
+pub(crate) fn pre_increment(text: &[u8]) -> Option<(Increment, &[u8])>
+    ensures { option_map (λ s. (s.0, s.1.now)) result ≡ pre_increment text.now }
 {
-    let (direction, rest) = step_behind(text)?;
+    let (increment, rest) = post_increment(text)?;
     let name = after_blanks(rest);
     if !begins_name(name) {
         return None;
     }
-    Some((direction, name))
+    Some((increment, name))
 }
 
-/// The step behind a variable that the text begins with, blanks aside, and what stands behind it.
-pub(crate) fn step_behind(text: &[u8]) -> Option<(Direction, &[u8])>
-    ensures { option_map (λ s. (s.0, s.1.now)) result ≡ step_behind text.now }
+/// The `++` or `--` after a variable that the text begins with, blanks aside, and what follows it.
+pub(crate) fn post_increment(text: &[u8]) -> Option<(Increment, &[u8])>
+    ensures { option_map (λ s. (s.0, s.1.now)) result ≡ post_increment text.now }
 {
-    first_step(after_blanks(text))
+    increment_at(after_blanks(text))
 }
 
-fn first_step(text: &[u8]) -> Option<(Direction, &[u8])>
-    ensures { option_map (λ s. (s.0, s.1.now)) result ≡ first_of steps text.now }
+fn increment_at(text: &[u8]) -> Option<(Increment, &[u8])>
+    ensures { option_map (λ s. (s.0, s.1.now)) result ≡ first_of increments text.now }
 {
     match text {
-        [b'+', b'+', rest @ ..] => Some((Direction::Up, rest)),
-        [b'-', b'-', rest @ ..] => Some((Direction::Down, rest)),
+        [b'+', b'+', rest @ ..] => Some((Increment::Up, rest)),
+        [b'-', b'-', rest @ ..] => Some((Increment::Down, rest)),
         _ => None,
     }
 }
@@ -69,7 +69,7 @@ fn first_symbol(text: &[u8]) -> Option<(Symbol, &[u8])>
     }
 }
 
-// The operator with this first byte, behind which the rest stands.
+// The operator with this first byte, which the rest follows.
 fn symbol_from(first: u8, rest: &[u8]) -> Option<(Symbol, &[u8])>
     ensures { option_map (λ s. (s.0, s.1.now)) result ≡ first_of symbols (first ∷ rest.now) }
 {
@@ -80,8 +80,18 @@ fn symbol_from(first: u8, rest: &[u8]) -> Option<(Symbol, &[u8])>
         b'+' => Some(assigned(Operator::Add, rest)),
         b'-' => Some(assigned(Operator::Subtract, rest)),
         b'^' => Some(assigned(Operator::BitXor, rest)),
-        b'&' => Some(doubled(b'&', Symbol::Joint(Joint::And), Operator::BitAnd, rest)),
-        b'|' => Some(doubled(b'|', Symbol::Joint(Joint::Or), Operator::BitOr, rest)),
+        b'&' => Some(doubled(
+            b'&',
+            Symbol::Binary(BinaryOperator::And),
+            Operator::BitAnd,
+            rest,
+        )),
+        b'|' => Some(doubled(
+            b'|',
+            Symbol::Binary(BinaryOperator::Or),
+            Operator::BitOr,
+            rest,
+        )),
         b'<' => Some(compared(
             b'<',
             Operator::ShiftLeft,
@@ -100,18 +110,18 @@ fn symbol_from(first: u8, rest: &[u8]) -> Option<(Symbol, &[u8])>
         b'!' => differs(rest),
         b'?' => Some((Symbol::Question, rest)),
         b':' => Some((Symbol::Colon, rest)),
-        b',' => Some((Symbol::Joint(Joint::Comma), rest)),
+        b',' => Some((Symbol::Binary(BinaryOperator::Comma), rest)),
         _ => None,
     }
 }
 
-// The operator, or the assignment by it where `=` stands behind it.
+// The operator, or the assignment by it where `=` follows.
 fn assigned(operator: Operator, rest: &[u8]) -> (Symbol, &[u8])
     ensures { Some (result.0, result.1.now) ≡ first_of (assignable operator) rest.now }
 {
     match rest {
         [b'=', rest @ ..] => (Symbol::Assign(Some(operator)), rest),
-        _ => (Symbol::Joint(Joint::Both(operator)), rest),
+        _ => (Symbol::Binary(BinaryOperator::Both(operator)), rest),
     }
 }
 
@@ -137,8 +147,8 @@ fn compared(
 {
     match rest {
         [next, rest @ ..] if *next == mark => assigned(shift, rest),
-        [b'=', rest @ ..] => (Symbol::Joint(Joint::Both(or_equal)), rest),
-        _ => (Symbol::Joint(Joint::Both(plain)), rest),
+        [b'=', rest @ ..] => (Symbol::Binary(BinaryOperator::Both(or_equal)), rest),
+        _ => (Symbol::Binary(BinaryOperator::Both(plain)), rest),
     }
 }
 
@@ -147,7 +157,7 @@ fn equals(rest: &[u8]) -> (Symbol, &[u8])
     ensures { Some (result.0, result.1.now) ≡ first_of symbols (61 ∷ rest.now) }
 {
     match rest {
-        [b'=', rest @ ..] => (Symbol::Joint(Joint::Both(Operator::Equal)), rest),
+        [b'=', rest @ ..] => (Symbol::Binary(BinaryOperator::Both(Operator::Equal)), rest),
         _ => (Symbol::Assign(None), rest),
     }
 }
@@ -157,7 +167,10 @@ fn differs(rest: &[u8]) -> Option<(Symbol, &[u8])>
     ensures { option_map (λ s. (s.0, s.1.now)) result ≡ first_of symbols (33 ∷ rest.now) }
 {
     match rest {
-        [b'=', rest @ ..] => Some((Symbol::Joint(Joint::Both(Operator::NotEqual)), rest)),
+        [b'=', rest @ ..] => Some((
+            Symbol::Binary(BinaryOperator::Both(Operator::NotEqual)),
+            rest,
+        )),
         _ => None,
     }
 }

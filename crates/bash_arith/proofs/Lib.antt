@@ -1,6 +1,5 @@
 mod Compiled
 mod Executed
-mod Left
 mod Powers
 mod Rows
-mod Single
+mod Traces

@@ -1,3 +1,4 @@
+pub mod Keeping
 pub mod Machine
 pub mod Numbers
 pub mod Outcome

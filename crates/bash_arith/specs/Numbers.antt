@@ -8,8 +8,8 @@ use Rattle.arith_syntax.specs.declared.operator.Operator.{Operator}
 use Rattle.arith_syntax.specs.declared.operator.Operator.TheVariants.{BitOr, BitXor, BitAnd, Equal, NotEqual, Less, LessOrEqual, Greater, GreaterOrEqual, ShiftLeft, ShiftRight, Add, Subtract, Multiply, Divide, Remainder}
 use Rattle.arith_syntax.specs.declared.operator.Sign.{Sign}
 use Rattle.arith_syntax.specs.declared.operator.Sign.TheVariants as sign
-use Rattle.arith_syntax.specs.declared.operator.Direction.{Direction}
-use Rattle.arith_syntax.specs.declared.operator.Direction.TheVariants.{Up, Down}
+use Rattle.arith_syntax.specs.declared.operator.Increment.{Increment}
+use Rattle.arith_syntax.specs.declared.operator.Increment.TheVariants.{Up, Down}
 use Rattle.bash_arith.specs.declared.error.ArithErr.{ArithErr}
 use Rattle.bash_arith.specs.declared.error.ArithErr.TheVariants.{DivZero, NegativeExponent}
 
@@ -57,10 +57,10 @@ abbrev pub raised : ℤ → ℤ → Result ℤ ArithErr
 raised base (pos n) = Ok (int_wrapping_pow w64 base n)
 raised base (negsuc n) = Err NegativeExponent
 
-abbrev pub stepped : Direction → ℤ → ℤ
-stepped Up n = int_wrapping_add w64 n (pos 1)
-stepped Down n = int_wrapping_sub w64 n (pos 1)
+abbrev pub incremented : Increment → ℤ → ℤ
+incremented Up n = int_wrapping_add w64 n (pos 1)
+incremented Down n = int_wrapping_sub w64 n (pos 1)
 
--- a number's decimal digits, behind `-` where it is below 0
+-- a number's decimal digits, after `-` where it is below 0
 abbrev pub number_text : ℤ → Text
 number_text n = signed_decimal n

@@ -1,10 +1,11 @@
--- What an evaluation acts on, and how it ends.
-use Rattle.std.specs.Prelude.{◌≡◌, ℕ, zero, suc, ◌-◌, ◌≤◌, ℤ, Result, Ok, Err}
+-- What an evaluation acts on, how it goes on, and how it ends.
+use Rattle.std.specs.Prelude.{◌≡◌, ◌≢◌, ◌⊎◌, ℕ, zero, suc, ◌-◌, ℤ, Result, Ok, Err}
 use Rattle.eb_bytes.specs.Spending.{Spending}
 use Rattle.eb_bytes.specs.Text.{Text}
 use Rattle.shell_vars.specs.Store.{Store}
-use Rattle.shell_vars.specs.Stores.{Refuses, Stores}
+use Rattle.shell_vars.specs.Stores.{Stores}
 use Rattle.shell_vars.specs.declared.error.VarErr.{VarErr}
+use Rattle.shell_vars.specs.declared.error.VarErr.TheVariants as var
 use Rattle.bash_arith.specs.declared.error.ArithErr.{ArithErr}
 use Rattle.bash_arith.specs.declared.error.ArithErr.TheVariants as e
 
@@ -13,23 +14,39 @@ pub record State : Type 0 where
   pub store : Store
   pub left : ℕ
 
--- a number, or the first fault, and the state then
+-- a number, or the first fault, and the state then; before that, each state that an assignment or a spent step changed
 pub data Outcome : Type 0 where
   Ended : ℤ → State → Outcome
   Faulted : ArithErr → State → Outcome
+  Changed : State → Outcome → Outcome
 
 -- goes on with the number, unless there was a fault
 abbrev pub and_then : Outcome → (ℤ → State → Outcome) → Outcome
 and_then (Ended v s) f = f v s
 and_then (Faulted fault s) f = Faulted fault s
+and_then (Changed s o) f = Changed s (and_then o f)
 
+-- how it ends
+abbrev pub last : Outcome → Outcome
+last (Ended v s) = Ended v s
+last (Faulted fault s) = Faulted fault s
+last (Changed s o) = last o
+
+-- the steps that are left at the end
 abbrev pub left_of : Outcome → ℕ
 left_of (Ended v s) = s.left
 left_of (Faulted fault s) = s.left
+left_of (Changed s o) = left_of o
+
+-- it has this state at some moment
+abbrev pub Passes : Outcome → State → Type 0
+Passes (Ended v u) s = u ≡ s
+Passes (Faulted fault u) s = u ≡ s
+Passes (Changed u o) s = (u ≡ s) ⊎ Passes o s
 
 abbrev pub paid_from : ℕ → State → (State → Outcome) → Outcome
 paid_from zero s f = Faulted e.Spent s
-paid_from (suc n) s f = f (record s { left = n })
+paid_from (suc n) s f = Changed s (f (record s { left = n }))
 
 -- spends a step, and goes on if it was left
 abbrev pub paid : State → (State → Outcome) → Outcome
@@ -42,20 +59,17 @@ left b = b.limit - b.used
 abbrev pub state : Stores → Spending → State
 state vars budget = record { store = vars.present; left = left budget }
 
--- an answer is that outcome, in the state in which it leaves all; where memory is wanted, at most its steps are used
+-- an answer is how that outcome ends, in the state then; out of memory comes in a state that it has at some moment. The
+-- fault of a variable is never out of memory.
 abbrev pub Tells : Result ℤ ArithErr → Outcome → State → Type 0
-Tells (Ok v) outcome s = outcome ≡ Ended v s
-Tells (Err e.Memory) outcome s = left_of outcome ≤ s.left
-Tells (Err fault) outcome s = outcome ≡ Faulted fault s
-
--- an answer is the one that is given; want of memory may come at any time
-abbrev pub Answers : {T : Type 0} → Result T VarErr → Result T VarErr → Type 0
-Answers (Ok x) given = given ≡ Ok x
-Answers (Err refused) given = Refuses refused given
+Tells (Ok v) outcome s = last outcome ≡ Ended v s
+Tells (Err e.Memory) outcome s = Passes outcome s
+Tells (Err (e.Var x refused)) outcome s = (refused ≢ var.Memory) × (last outcome ≡ Faulted (e.Var x refused) s)
+Tells (Err fault) outcome s = last outcome ≡ Faulted fault s
 
 -- the fault of a variable that could not be read or changed
 abbrev pub IsVar : ArithErr → Text → VarErr → Type 0
-IsVar (e.Var x refused) name given = (x ≡ name) × (refused ≡ given)
+IsVar (e.Var x refused) name given = (x ≡ name) × (refused ≡ given) × (refused ≢ var.Memory)
 IsVar e.Memory name given = Unit {0}
 IsVar fault name given = ⊥
 

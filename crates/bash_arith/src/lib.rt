@@ -5,10 +5,8 @@ mod arithmetic;
 mod error;
 mod machine;
 mod number;
+mod operation;
 mod stack;
-#[cfg(test)]
-mod tests;
-mod variable;
 
 pub use arithmetic::eval;
 pub use error::ArithErr;

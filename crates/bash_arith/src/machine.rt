@@ -1,43 +1,240 @@
-ghost use Rattle.std.specs.Prelude.{◌≡◌, ℕ, ◌+◌, [], ◌∷◌, drop, Ok, IfSome, IfNone};
+ghost use Rattle.std.specs.Prelude.{◌≡◌, ◌≤◌, ℕ, Err, [], ◌∷◌, drop, unwrap_or, IfOk, IfSome, IfNone};
+ghost use Rattle.std.specs.Option.{option_copied};
 ghost use Rattle.arith_syntax.specs.declared.instruction.Instruction.TheVariants as i;
 ghost use Rattle.bash_arith.specs.Machine as m;
-ghost use Rattle.bash_arith.specs.Outcome.{Pays, State, Tells, state};
-ghost use Rattle.bash_arith.specs.Value.{step_value as step_value_of, text_value};
-ghost use Rattle.bash_arith.specs.Variables.{fetched};
+ghost use Rattle.bash_arith.specs.Outcome.{IsVar, Pays, Tells, left, left_of};
+ghost use Rattle.bash_arith.specs.Value.{arithmetic, increment_value as value_of_increment, text_value};
+ghost use Rattle.bash_arith.specs.Variables.{fetched, stored};
 
 use crate::error::ArithErr;
-use crate::number::{is_zero, operate, raise, sign, step, truth};
+use crate::number::incremented;
+use crate::operation::{
+    and_then, discard, or_else, put, put_operated, put_raised, put_signed, put_truth, unless,
+};
 use crate::stack::Stack;
-use crate::variable::{assign, element_text, is_refused, refused};
-use arith_syntax::{Direction, Instruction, Operator, Place, ReadErr, Refusal, Sign, When, read};
-use eb_bytes::{Budget, Bytes, Steps};
-use shell_vars::Vars;
+use arith_syntax::{
+    Increment, Instruction, ReadErr, Refusal, Timing, VariableRef, read, without_quotes,
+};
+use eb_bytes::{Budget, Bytes, Memory, Steps, signed_decimal};
+use shell_vars::{VarErr, Vars, is_refused};
 use std::alloc::Global;
 use std::sync::ledger::Ledger;
 
-/// The value of a text in which at most `levels` nestings are open at once.
-///
-/// # Errors
-/// The first fault.
-#[cycle(machine)]
-pub(crate) fn evaluate<L: Ledger>(
-    alloc: Global,
-    text: &[u8],
-    levels: u8,
-    vars: &mut Vars,
-    budget: &mut Budget,
-    steps: &mut Steps<L>,
-) -> Result<i64, ArithErr>
-    ensures means { Tells result (text_value levels text.now (state vars.old budget.old)) (state vars.new budget.new) }
-    ensures saved { vars.new.saved ≡ vars.old.saved }
-    ensures limit { budget.new.limit ≡ budget.old.limit }
-    ensures ticks { steps.new + budget.old.used ≡ steps.old + budget.new.used }
-{
-    let code = match read(alloc, text, levels) {
-        Ok(code) => code,
-        Err(error) => return Err(fault(error)),
-    };
-    run(alloc, code.as_slice(), levels, vars, budget, steps)
+// How many nestings may be open at once.
+const MAX_NESTED: u8 = 64;
+
+/// What executes the instructions for an expression.
+#[derive(Drop)]
+pub(crate) struct Machine<'m, L: Ledger> {
+    pub(crate) alloc: Global,
+    pub(crate) vars: &'m mut Vars,
+    pub(crate) budget: &'m mut Budget,
+    pub(crate) steps: &'m mut Steps<L>,
+}
+
+impl<'m, L: Ledger> Machine<'m, L> {
+    ghost use Rattle.bash_arith.specs.Keeping.{Keeps, state_of};
+
+    /// The value of a whole text, in which at most 64 nestings are open at once.
+    ///
+    /// # Errors
+    /// The first fault.
+    #[tactic(auto, unfolding(crate::specs::Value::arithmetic))]
+    pub(crate) fn evaluate_whole(&mut self, text: &[u8]) -> Result<i64, ArithErr>
+        ensures means { Tells result (arithmetic text.now (state_of self.old)) (state_of self.new) }
+        ensures spent { result ≡ Err ArithErr.Memory → left_of (arithmetic text.now (state_of self.old)) ≤ left self.new.budget.now }
+        ensures keeps { Keeps self.old self.new }
+    {
+        self.evaluate(text, MAX_NESTED)
+    }
+
+    // The value of a text in which at most `nesting_left` nestings are open at once.
+    #[cycle(machine)]
+    fn evaluate(&mut self, text: &[u8], nesting_left: u8) -> Result<i64, ArithErr>
+        ensures means { Tells result (text_value nesting_left text.now (state_of self.old)) (state_of self.new) }
+        ensures keeps { Keeps self.old self.new }
+    {
+        let text = without_quotes(self.alloc, text)?;
+        let code = match read(self.alloc, text.as_slice(), nesting_left) {
+            Ok(code) => code,
+            Err(error) => return Err(fault(error)),
+        };
+        self.run(code.as_slice(), nesting_left)
+    }
+
+    // Executes instructions, and answers what they leave on top.
+    #[cycle(machine)]
+    fn run(&mut self, code: &[Instruction<'_>], nesting_left: u8) -> Result<i64, ArithErr>
+        ensures means { Tells result (m.run nesting_left code.now 0 [] (state_of self.old)) (state_of self.new) }
+        ensures keeps { Keeps self.old self.new }
+    {
+        let mut stack = Stack::new(self.alloc);
+        let mut rest = code;
+        while let Some((instruction, after)) = split_first(rest) {
+            match self.execute(instruction, nesting_left, &mut stack) {
+                Ok(left_out) => rest = after_some(after, left_out),
+                Err(fault) => return Err(fault),
+            }
+        }
+        Ok(stack.top())
+    }
+
+    // Executes an instruction, and answers how many of those after it are left out.
+    #[cycle(machine)]
+    fn execute(
+        &mut self,
+        instruction: &Instruction<'_>,
+        nesting_left: u8,
+        stack: &mut Stack,
+    ) -> Result<usize, ArithErr>
+        ensures means { m.Continues result (m.executed nesting_left instruction.now stack.old (state_of self.old)) stack.new (state_of self.new) }
+        ensures keeps { Keeps self.old self.new }
+    {
+        match instruction {
+            Instruction::Push(number) => put(stack, *number),
+            Instruction::Fetch(variable) => self.fetch(variable, nesting_left, stack),
+            Instruction::Load(variable) => self.load(variable, nesting_left, stack),
+            Instruction::Store(variable) => self.store(variable, stack),
+            Instruction::Increment(timing, increment, variable) => {
+                self.increment(*timing, *increment, variable, nesting_left, stack)
+            }
+            Instruction::Sign(prefix) => put_signed(stack, *prefix),
+            Instruction::Operate(operator) => put_operated(stack, *operator),
+            Instruction::Raise => put_raised(stack),
+            Instruction::Discard => Ok(discard(stack)),
+            Instruction::Truth => put_truth(stack),
+            Instruction::OrElse(count) => or_else(stack, *count),
+            Instruction::AndThen(count) => and_then(stack, *count),
+            Instruction::Unless(count) => Ok(unless(stack, *count)),
+            Instruction::Skip(count) => Ok(*count),
+        }
+    }
+
+    // Takes the subscript, and puts the variable's value.
+    #[cycle(machine)]
+    fn fetch(
+        &mut self,
+        variable: &VariableRef<'_>,
+        nesting_left: u8,
+        stack: &mut Stack,
+    ) -> Result<usize, ArithErr>
+        ensures means { m.Continues result (m.executed nesting_left (i.Fetch variable.now) stack.old (state_of self.old)) stack.new (state_of self.new) }
+        ensures keeps { Keeps self.old self.new }
+    {
+        let at = take_subscript(variable, stack);
+        let number = self.value(variable, at, nesting_left)?;
+        stack.push(number)?;
+        Ok(0)
+    }
+
+    // Leaves the subscript, and puts the variable's value.
+    #[cycle(machine)]
+    #[tactic(auto, using(crate::proofs::Executed::goes_on, crate::proofs::Executed::faults, crate::proofs::Executed::no_room))]
+    fn load(
+        &mut self,
+        variable: &VariableRef<'_>,
+        nesting_left: u8,
+        stack: &mut Stack,
+    ) -> Result<usize, ArithErr>
+        ensures means { m.Continues result (m.executed nesting_left (i.Load variable.now) stack.old (state_of self.old)) stack.new (state_of self.new) }
+        ensures keeps { Keeps self.old self.new }
+    {
+        let at = subscript(variable, stack);
+        let number = self.value(variable, at, nesting_left)?;
+        stack.push(number)?;
+        Ok(0)
+    }
+
+    // Takes the subscript, increments or decrements the variable, and puts its value before or after that.
+    #[cycle(machine)]
+    fn increment(
+        &mut self,
+        timing: Timing,
+        increment: Increment,
+        variable: &VariableRef<'_>,
+        nesting_left: u8,
+        stack: &mut Stack,
+    ) -> Result<usize, ArithErr>
+        ensures means { m.Continues result (m.executed nesting_left (i.Increment timing increment variable.now) stack.old (state_of self.old)) stack.new (state_of self.new) }
+        ensures keeps { Keeps self.old self.new }
+    {
+        let at = take_subscript(variable, stack);
+        let before = self.value(variable, at, nesting_left)?;
+        let after = self.assign(variable.name.as_slice(), at, incremented(increment, before))?;
+        stack.push(increment_value(timing, before, after))?;
+        Ok(0)
+    }
+
+    // Takes a number, above its subscript, assigns it to the variable, and puts it.
+    #[tactic(auto, using(crate::proofs::Executed::goes_on, crate::proofs::Executed::faults, crate::proofs::Executed::no_room))]
+    fn store(
+        &mut self,
+        variable: &VariableRef<'_>,
+        stack: &mut Stack,
+    ) -> Result<usize, ArithErr>
+        ensures means { (n : ℕ) → m.Continues result (m.executed n (i.Store variable.now) stack.old (state_of self.old)) stack.new (state_of self.new) }
+        ensures keeps { Keeps self.old self.new }
+    {
+        let number = stack.pop();
+        let at = take_subscript(variable, stack);
+        let number = self.assign(variable.name.as_slice(), at, number)?;
+        stack.push(number)?;
+        Ok(0)
+    }
+
+    // The value of a variable: its text evaluated, which costs a step.
+    #[cycle(machine)]
+    fn value(
+        &mut self,
+        variable: &VariableRef<'_>,
+        at: Option<i64>,
+        nesting_left: u8,
+    ) -> Result<i64, ArithErr>
+        ensures means { Tells result (fetched (m.text_of nesting_left variable.now) variable.now.name at (state_of self.old)) (state_of self.new) }
+        ensures keeps { Keeps self.old self.new }
+    {
+        let name = variable.name.as_slice();
+        if is_refused(name) {
+            return Err(ArithErr::Unsupported(Bytes::from_slice(self.alloc, name)?));
+        }
+        let text = match self.vars.element(name, at) {
+            Ok(text) => text,
+            Err(refusal) => return Err(refused(self.alloc, name, refusal)),
+        };
+        let text = copy_text(self.alloc, text)?;
+        self.pay()?;
+        let nesting_left = variable.nesting_left.min(nesting_left);
+        if nesting_left == 0 {
+            return Err(ArithErr::Nesting);
+        }
+        self.evaluate(text.as_slice(), nesting_left - 1)
+    }
+
+    // Assigns a number to a name, or to the element that a subscript means, and answers it.
+    fn assign(&mut self, name: &[u8], at: Option<i64>, number: i64) -> Result<i64, ArithErr>
+        ensures means { Tells result (stored name.now at number (state_of self.old)) (state_of self.new) }
+        ensures keeps { Keeps self.old self.new }
+    {
+        let text = signed_decimal(self.alloc, number)?;
+        match self.vars.assign(name, at, text) {
+            Ok(()) => Ok(number),
+            Err(refusal) => Err(refused(self.alloc, name, refusal)),
+        }
+    }
+
+    // Spends a step.
+    fn pay(&mut self) -> Result<(), ArithErr>
+        ensures pays { Pays result self.old.budget.now self.new.budget.now }
+        ensures vars { self.new.vars.now ≡ self.old.vars.now }
+        ensures keeps { Keeps self.old self.new }
+    {
+        // What is used is never above the limit, as this call says.
+        let _used = self.budget.used();
+        match self.budget.spend(1, self.steps) {
+            Ok(()) => Ok(()),
+            Err(_) => Err(ArithErr::Spent),
+        }
+    }
 }
 
 fn fault(error: ReadErr) -> ArithErr
@@ -50,334 +247,77 @@ fn fault(error: ReadErr) -> ArithErr
     }
 }
 
-// Executes instructions, and answers what they leave on top.
-#[cycle(machine)]
-fn run<L: Ledger>(
-    alloc: Global,
-    code: &[Instruction],
-    levels: u8,
-    vars: &mut Vars,
-    budget: &mut Budget,
-    steps: &mut Steps<L>,
-) -> Result<i64, ArithErr>
-    ensures means { Tells result (m.run levels code.now 0 [] (state vars.old budget.old)) (state vars.new budget.new) }
-    ensures saved { vars.new.saved ≡ vars.old.saved }
-    ensures limit { budget.new.limit ≡ budget.old.limit }
-    ensures ticks { steps.new + budget.old.used ≡ steps.old + budget.new.used }
+// The fault of a variable of this name that could not be read or changed.
+fn refused(alloc: Global, name: &[u8], refusal: VarErr) -> ArithErr
+    ensures { IsVar result name.now refusal }
 {
-    let mut stack = Stack::new(alloc);
-    let mut rest = code;
-    while let Some((instruction, behind)) = split_first(rest) {
-        match execute(alloc, instruction, levels, &mut stack, vars, budget, steps) {
-            Ok(left_out) => rest = behind_some(behind, left_out),
-            Err(fault) => return Err(fault),
-        }
+    if let VarErr::Memory = refusal {
+        return ArithErr::Memory;
     }
-    Ok(stack.top())
+    match Bytes::from_slice(alloc, name) {
+        Ok(name) => ArithErr::Var(name, refusal),
+        Err(_) => ArithErr::Memory,
+    }
 }
 
-fn split_first(code: &[Instruction]) -> Option<(&Instruction, &[Instruction])>
+fn split_first<'c, 't>(
+    code: &'c [Instruction<'t>],
+) -> Option<(&'c Instruction<'t>, &'c [Instruction<'t>])>
     ensures some { IfSome result (λ split. code.now ≡ split.0.now ∷ split.1.now) }
     ensures none { IfNone result (code.now ≡ []) }
 {
     match code {
-        [instruction, behind @ ..] => Some((instruction, behind)),
+        [instruction, after @ ..] => Some((instruction, after)),
         [] => None,
     }
 }
 
-// What stands behind so many of them.
-fn behind_some(code: &[Instruction], count: usize) -> &[Instruction]
+// What follows so many of them.
+fn after_some<'c, 't>(code: &'c [Instruction<'t>], count: usize) -> &'c [Instruction<'t>]
     ensures { result.now ≡ drop count code.now }
 {
     &code[count.min(code.len())..]
 }
 
-// Executes an instruction, and answers how many of those behind it are left out.
-#[cycle(machine)]
-fn execute<L: Ledger>(
-    alloc: Global,
-    instruction: &Instruction,
-    levels: u8,
-    stack: &mut Stack,
-    vars: &mut Vars,
-    budget: &mut Budget,
-    steps: &mut Steps<L>,
-) -> Result<usize, ArithErr>
-    ensures means { m.Continues result (m.executed levels instruction.now stack.old (state vars.old budget.old)) stack.new (state vars.new budget.new) }
-    ensures saved { vars.new.saved ≡ vars.old.saved }
-    ensures limit { budget.new.limit ≡ budget.old.limit }
-    ensures ticks { steps.new + budget.old.used ≡ steps.old + budget.new.used }
+// A copy of a text, empty where there is none.
+fn copy_text(alloc: Global, text: Option<&Bytes>) -> Result<Bytes, Memory>
+    ensures { IfOk result (λ copy. copy ≡ unwrap_or (option_copied text.entry) []) }
 {
-    match instruction {
-        Instruction::Push(number) => put(stack, *number),
-        Instruction::Fetch(place) => fetch(alloc, place, levels, stack, vars, budget, steps),
-        Instruction::Load(place) => load(alloc, place, levels, stack, vars, budget, steps),
-        Instruction::Store(place) => store(alloc, place, stack, vars),
-        Instruction::Step(when, direction, place) => {
-            step_variable(
-                alloc, *when, *direction, place, levels, stack, vars, budget, steps,
-            )
-        }
-        Instruction::Sign(prefix) => put_signed(stack, *prefix),
-        Instruction::Operate(operator) => put_operated(stack, *operator),
-        Instruction::Raise => put_raised(stack),
-        Instruction::Discard => Ok(discard(stack)),
-        Instruction::Truth => put_truth(stack),
-        Instruction::OrElse(count) => or_else(stack, *count),
-        Instruction::AndThen(count) => and_then(stack, *count),
-        Instruction::Unless(count) => Ok(unless(stack, *count)),
-        Instruction::Skip(count) => Ok(*count),
+    match text {
+        Some(text) => text.copy(alloc),
+        None => Ok(Bytes::new(alloc)),
     }
 }
 
-// Takes the subscript of a place, and puts what the variable means.
-#[cycle(machine)]
-#[tactic(auto, using(crate::proofs::Executed::goes_on, crate::proofs::Executed::faults, crate::proofs::Executed::wants))]
-fn fetch<L: Ledger>(
-    alloc: Global,
-    place: &Place,
-    levels: u8,
-    stack: &mut Stack,
-    vars: &mut Vars,
-    budget: &mut Budget,
-    steps: &mut Steps<L>,
-) -> Result<usize, ArithErr>
-    ensures means { m.Continues result (m.executed levels (i.Fetch place.now) stack.old (state vars.old budget.old)) stack.new (state vars.new budget.new) }
-    ensures saved { vars.new.saved ≡ vars.old.saved }
-    ensures limit { budget.new.limit ≡ budget.old.limit }
-    ensures ticks { steps.new + budget.old.used ≡ steps.old + budget.new.used }
+// The number before an increment, or the one after it.
+fn increment_value(timing: Timing, before: i64, after: i64) -> i64
+    ensures { result ≡ value_of_increment timing before after }
 {
-    let at = take_subscript(place, stack);
-    let number = meaning(alloc, place, at, levels, vars, budget, steps)?;
-    stack.push(number)?;
-    Ok(0)
-}
-
-// Leaves the subscript of a place, and puts what the variable means.
-#[cycle(machine)]
-#[tactic(auto, using(crate::proofs::Executed::goes_on, crate::proofs::Executed::faults, crate::proofs::Executed::wants))]
-fn load<L: Ledger>(
-    alloc: Global,
-    place: &Place,
-    levels: u8,
-    stack: &mut Stack,
-    vars: &mut Vars,
-    budget: &mut Budget,
-    steps: &mut Steps<L>,
-) -> Result<usize, ArithErr>
-    ensures means { m.Continues result (m.executed levels (i.Load place.now) stack.old (state vars.old budget.old)) stack.new (state vars.new budget.new) }
-    ensures saved { vars.new.saved ≡ vars.old.saved }
-    ensures limit { budget.new.limit ≡ budget.old.limit }
-    ensures ticks { steps.new + budget.old.used ≡ steps.old + budget.new.used }
-{
-    let at = subscript(place, stack);
-    let number = meaning(alloc, place, at, levels, vars, budget, steps)?;
-    stack.push(number)?;
-    Ok(0)
-}
-
-// Takes the subscript of a place, steps the variable, and puts the number before or behind the step.
-#[cycle(machine)]
-fn step_variable<L: Ledger>(
-    alloc: Global,
-    when: When,
-    direction: Direction,
-    place: &Place,
-    levels: u8,
-    stack: &mut Stack,
-    vars: &mut Vars,
-    budget: &mut Budget,
-    steps: &mut Steps<L>,
-) -> Result<usize, ArithErr>
-    ensures means { m.Continues result (m.executed levels (i.Step when direction place.now) stack.old (state vars.old budget.old)) stack.new (state vars.new budget.new) }
-    ensures saved { vars.new.saved ≡ vars.old.saved }
-    ensures limit { budget.new.limit ≡ budget.old.limit }
-    ensures ticks { steps.new + budget.old.used ≡ steps.old + budget.new.used }
-{
-    let at = take_subscript(place, stack);
-    let before = meaning(alloc, place, at, levels, vars, budget, steps)?;
-    let behind = step(direction, before);
-    if let Err(fault) = assign(alloc, vars, place.name.as_slice(), at, behind) {
-        return Err(fault);
-    }
-    stack.push(step_value(when, before, behind))?;
-    Ok(0)
-}
-
-// What a variable means: its text evaluated, which costs a step.
-#[cycle(machine)]
-fn meaning<L: Ledger>(
-    alloc: Global,
-    place: &Place,
-    at: Option<i64>,
-    levels: u8,
-    vars: &mut Vars,
-    budget: &mut Budget,
-    steps: &mut Steps<L>,
-) -> Result<i64, ArithErr>
-    ensures means { Tells result (fetched (m.text_of levels place.now) place.now.name at (state vars.old budget.old)) (state vars.new budget.new) }
-    ensures saved { vars.new.saved ≡ vars.old.saved }
-    ensures limit { budget.new.limit ≡ budget.old.limit }
-    ensures ticks { steps.new + budget.old.used ≡ steps.old + budget.new.used }
-{
-    let name = place.name.as_slice();
-    if is_refused(name) {
-        return Err(ArithErr::Unsupported(Bytes::from_slice(alloc, name)?));
-    }
-    let text = match element_text(alloc, vars, name, at) {
-        Ok(text) => text,
-        Err(refusal) => return Err(refused(alloc, name, refusal)),
-    };
-    pay(budget, steps)?;
-    let levels = place.levels.min(levels);
-    if levels == 0 {
-        return Err(ArithErr::Nesting);
-    }
-    evaluate(alloc, text.as_slice(), levels - 1, vars, budget, steps)
-}
-
-// Spends a step.
-fn pay<L: Ledger>(budget: &mut Budget, steps: &mut Steps<L>) -> Result<(), ArithErr>
-    ensures pays { Pays result budget.old budget.new }
-    ensures limit { budget.new.limit ≡ budget.old.limit }
-    ensures ticks { steps.new + budget.old.used ≡ steps.old + budget.new.used }
-{
-    match budget.spend(1, steps) {
-        Ok(()) => Ok(()),
-        Err(_) => Err(ArithErr::Spent),
+    match timing {
+        Timing::Pre => after,
+        Timing::Post => before,
     }
 }
 
-// The number before a step, or the one behind it.
-fn step_value(when: When, before: i64, behind: i64) -> i64
-    ensures { result ≡ step_value_of when before behind }
+// The subscript of a variable.
+fn subscript(variable: &VariableRef<'_>, stack: &Stack) -> Option<i64>
+    ensures { result ≡ m.subscript variable.now stack.now }
 {
-    match when {
-        When::Later => before,
-        When::First => behind,
-    }
-}
-
-// The subscript of a place.
-fn subscript(place: &Place, stack: &Stack) -> Option<i64>
-    ensures { result ≡ m.subscript place.now stack.now }
-{
-    if place.subscripted {
+    if variable.has_subscript {
         Some(stack.top())
     } else {
         None
     }
 }
 
-// Takes the subscript of a place.
-fn take_subscript(place: &Place, stack: &mut Stack) -> Option<i64>
-    ensures value { result ≡ m.subscript place.now stack.old }
-    ensures rest { stack.new ≡ m.without_subscript place.now stack.old }
+// Takes the subscript of a variable.
+fn take_subscript(variable: &VariableRef<'_>, stack: &mut Stack) -> Option<i64>
+    ensures value { result ≡ m.subscript variable.now stack.old }
+    ensures rest { stack.new ≡ m.without_subscript variable.now stack.old }
 {
-    if place.subscripted {
+    if variable.has_subscript {
         Some(stack.pop())
     } else {
         None
     }
-}
-
-// Takes a number, above its subscript, gives it to the variable, and puts it.
-#[tactic(auto, using(crate::proofs::Executed::goes_on, crate::proofs::Executed::faults, crate::proofs::Executed::wants))]
-fn store(
-    alloc: Global,
-    place: &Place,
-    stack: &mut Stack,
-    vars: &mut Vars,
-) -> Result<usize, ArithErr>
-    ensures means { (n : ℕ) (left : ℕ) → m.Continues result (m.executed n (i.Store place.now) stack.old (record { store = vars.old.present; left = left })) stack.new (record { store = vars.new.present; left = left }) }
-    ensures saved { vars.new.saved ≡ vars.old.saved }
-{
-    let number = stack.pop();
-    let at = take_subscript(place, stack);
-    let number = assign(alloc, vars, place.name.as_slice(), at, number)?;
-    stack.push(number)?;
-    Ok(0)
-}
-
-fn put(stack: &mut Stack, number: i64) -> Result<usize, ArithErr>
-    ensures { (n : ℕ) (s : State) → m.Continues result (m.executed n (i.Push number) stack.old s) stack.new s }
-{
-    stack.push(number)?;
-    Ok(0)
-}
-
-fn put_signed(stack: &mut Stack, prefix: Sign) -> Result<usize, ArithErr>
-    ensures { (n : ℕ) (s : State) → m.Continues result (m.executed n (i.Sign prefix) stack.old s) stack.new s }
-{
-    let number = stack.pop();
-    stack.push(sign(prefix, number))?;
-    Ok(0)
-}
-
-fn put_operated(stack: &mut Stack, operator: Operator) -> Result<usize, ArithErr>
-    ensures { (n : ℕ) (s : State) → m.Continues result (m.executed n (i.Operate operator) stack.old s) stack.new s }
-{
-    let right = stack.pop();
-    let left = stack.pop();
-    let number = operate(operator, left, right)?;
-    stack.push(number)?;
-    Ok(0)
-}
-
-fn put_raised(stack: &mut Stack) -> Result<usize, ArithErr>
-    ensures { (n : ℕ) (s : State) → m.Continues result (m.executed n i.Raise stack.old s) stack.new s }
-{
-    let exponent = stack.pop();
-    let base = stack.pop();
-    let number = raise(base, exponent)?;
-    stack.push(number)?;
-    Ok(0)
-}
-
-fn put_truth(stack: &mut Stack) -> Result<usize, ArithErr>
-    ensures { (n : ℕ) (s : State) → m.Continues result (m.executed n i.Truth stack.old s) stack.new s }
-{
-    let number = stack.pop();
-    stack.push(truth(!is_zero(number)))?;
-    Ok(0)
-}
-
-fn discard(stack: &mut Stack) -> usize
-    ensures { (n : ℕ) (s : State) → m.Continues (Ok result) (m.executed n i.Discard stack.old s) stack.new s }
-{
-    stack.pop();
-    0
-}
-
-// Where the number that it takes is not 0, puts 1 and leaves out so many instructions.
-fn or_else(stack: &mut Stack, count: usize) -> Result<usize, ArithErr>
-    ensures { (n : ℕ) (s : State) → m.Continues result (m.executed n (i.OrElse count) stack.old s) stack.new s }
-{
-    let number = stack.pop();
-    if is_zero(number) {
-        return Ok(0);
-    }
-    stack.push(1)?;
-    Ok(count)
-}
-
-// Where the number that it takes is 0, puts 0 and leaves out so many instructions.
-fn and_then(stack: &mut Stack, count: usize) -> Result<usize, ArithErr>
-    ensures { (n : ℕ) (s : State) → m.Continues result (m.executed n (i.AndThen count) stack.old s) stack.new s }
-{
-    let number = stack.pop();
-    if !is_zero(number) {
-        return Ok(0);
-    }
-    stack.push(0)?;
-    Ok(count)
-}
-
-// Where the number that it takes is 0, leaves out so many instructions.
-fn unless(stack: &mut Stack, count: usize) -> usize
-    ensures { (n : ℕ) (s : State) → m.Continues (Ok result) (m.executed n (i.Unless count) stack.old s) stack.new s }
-{
-    let number = stack.pop();
-    if is_zero(number) { count } else { 0 }
 }

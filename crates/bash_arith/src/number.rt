@@ -1,12 +1,9 @@
-ghost use Rattle.std.specs.Prelude.{◌≡◌, ◌^◌, ◌%◌, ◌<◌, int_rem, IfOk};
+ghost use Rattle.std.specs.Prelude.{◌≡◌, ◌^◌, ◌%◌, ◌<◌, int_rem};
 ghost use Rattle.std.specs.Int.{cast_unsigned, w64, int_wrapping_div};
 ghost use Rattle.bash_arith.specs.Numbers as n;
 
 use crate::error::ArithErr;
-use arith_syntax::{Direction, Operator, Sign};
-use eb_bytes::{Bytes, Memory};
-use itoa::Buffer;
-use std::alloc::Global;
+use arith_syntax::{Increment, Operator, Sign};
 
 /// What an operator makes of the numbers on its sides.
 ///
@@ -74,7 +71,7 @@ fn remainder(left: i64, right: i64) -> Result<i64, ArithErr>
     Ok(left.wrapping_rem(right))
 }
 
-/// What a prefix operator makes of a number.
+/// What a unary operator makes of a number.
 pub(crate) fn sign(sign: Sign, number: i64) -> i64
     ensures { result ≡ n.signed sign number }
 {
@@ -86,13 +83,13 @@ pub(crate) fn sign(sign: Sign, number: i64) -> i64
     }
 }
 
-/// The number behind a step up or down.
-pub(crate) fn step(direction: Direction, number: i64) -> i64
-    ensures { result ≡ n.stepped direction number }
+/// The number after an increment or a decrement.
+pub(crate) fn incremented(increment: Increment, number: i64) -> i64
+    ensures { result ≡ n.incremented increment number }
 {
-    match direction {
-        Direction::Up => number.wrapping_add(1),
-        Direction::Down => number.wrapping_sub(1),
+    match increment {
+        Increment::Up => number.wrapping_add(1),
+        Increment::Down => number.wrapping_sub(1),
     }
 }
 
@@ -124,14 +121,4 @@ fn power(base: u64, exponent: u64) -> u64
         left /= 2;
     }
     power
-}
-
-/// A number's decimal digits, behind `-` where it is below 0.
-///
-/// # Errors
-/// `Memory` where there is no room for them.
-pub(crate) fn number_text(alloc: Global, number: i64) -> Result<Bytes, Memory>
-    ensures { IfOk result (λ text. text ≡ n.number_text number) }
-{
-    Bytes::from_slice(alloc, Buffer::new().format(number).as_bytes())
 }

@@ -3,60 +3,60 @@ use Rattle.arith_syntax.specs.Putting.{inner, side}
 use Rattle.arith_syntax.proofs.Grown.{Grows}
 use Rattle.arith_syntax.proofs.reader.+reader.Given as goal
 
-abbrev pub decreases-whole : goal.decreases-whole
-decreases-whole l = 128 * l.levels + 93
+abbrev pub decreases-expressions::whole : goal.decreases-expressions::whole
+decreases-expressions::whole l = 128 * l.nesting_left + 93
 
-abbrev pub decreases-subscript : goal.decreases-subscript
-decreases-subscript l = 128 * l.levels + 94
+abbrev pub decreases-expressions::subscript : goal.decreases-expressions::subscript
+decreases-expressions::subscript l = 128 * l.nesting_left + 94
 
-abbrev pub decreases-assignment : goal.decreases-assignment
-decreases-assignment l = 128 * l.levels + 89
+abbrev pub decreases-assignments::assignment : goal.decreases-assignments::assignment
+decreases-assignments::assignment l = 128 * l.nesting_left + 89
 
-abbrev pub decreases-conditional : goal.decreases-conditional
-decreases-conditional l = 128 * l.levels + 88
+abbrev pub decreases-assignments::conditional : goal.decreases-assignments::conditional
+decreases-assignments::conditional l = 128 * l.nesting_left + 88
 
-abbrev pub decreases-binary : goal.decreases-binary
-decreases-binary l = 128 * l.levels + 8 * l.level + 7
+abbrev pub decreases-binary_operators::binary : goal.decreases-binary_operators::binary
+decreases-binary_operators::binary l = 128 * l.nesting_left + 8 * l.level + 7
 
-abbrev pub decreases-joined : goal.decreases-joined
-decreases-joined l = 128 * l.levels + 8 * l.level + 4
+abbrev pub decreases-binary_operators::joined : goal.decreases-binary_operators::joined
+decreases-binary_operators::joined l = 128 * l.nesting_left + 8 * l.level + 4
 
-abbrev pub decreases-right_side : goal.decreases-right_side
-decreases-right_side l = 128 * l.levels + 8 * l.level + 3
+abbrev pub decreases-binary_operators::right_side : goal.decreases-binary_operators::right_side
+decreases-binary_operators::right_side l = 128 * l.nesting_left + 8 * l.level + 3
 
-abbrev pub decreases-operand_of : goal.decreases-operand_of
-decreases-operand_of l = 128 * l.levels + 8 * l.level + 2
+abbrev pub decreases-binary_operators::operand_of : goal.decreases-binary_operators::operand_of
+decreases-binary_operators::operand_of l = 128 * l.nesting_left + 8 * l.level + 2
 
-abbrev pub decreases-power : goal.decreases-power
-decreases-power l = 128 * l.levels + 6
+abbrev pub decreases-unary_operators::power : goal.decreases-unary_operators::power
+decreases-unary_operators::power l = 128 * l.nesting_left + 6
 
-abbrev pub decreases-operand : goal.decreases-operand
-decreases-operand l = 128 * l.levels + 5
+abbrev pub decreases-unary_operators::operand : goal.decreases-unary_operators::operand
+decreases-unary_operators::operand l = 128 * l.nesting_left + 5
 
-abbrev pub decreases-signed : goal.decreases-signed
-decreases-signed l = 128 * l.levels + 4
+abbrev pub decreases-unary_operators::signed : goal.decreases-unary_operators::signed
+decreases-unary_operators::signed l = 128 * l.nesting_left + 4
 
-abbrev pub decreases-primary : goal.decreases-primary
-decreases-primary l = 128 * l.levels + 3
+abbrev pub decreases-primaries::primary : goal.decreases-primaries::primary
+decreases-primaries::primary l = 128 * l.nesting_left + 3
 
-abbrev pub decreases-parenthesized : goal.decreases-parenthesized
-decreases-parenthesized l = 128 * l.levels + 2
+abbrev pub decreases-primaries::parenthesized : goal.decreases-primaries::parenthesized
+decreases-primaries::parenthesized l = 128 * l.nesting_left + 2
 
-abbrev pub decreases-meaning : goal.decreases-meaning
-decreases-meaning l = 128 * l.levels + 2
+abbrev pub decreases-variables::variable_value : goal.decreases-variables::variable_value
+decreases-variables::variable_value l = 128 * l.nesting_left + 2
 
-abbrev pub decreases-stepping : goal.decreases-stepping
-decreases-stepping l = 128 * l.levels + 2
+abbrev pub decreases-variables::pre_incremented : goal.decreases-variables::pre_incremented
+decreases-variables::pre_incremented l = 128 * l.nesting_left + 2
 
-abbrev pub decreases-variable : goal.decreases-variable
-decreases-variable l = 128 * l.levels + 1
+abbrev pub decreases-variables::variable : goal.decreases-variables::variable
+decreases-variables::variable l = 128 * l.nesting_left + 1
 
-abbrev pub decreases-deeper : goal.decreases-deeper
-decreases-deeper l = 128 * l.levels
+abbrev pub decreases-nesting::deeper : goal.decreases-nesting::deeper
+decreases-nesting::deeper l = 128 * l.nesting_left
 
-abbrev pub decreases-by_rule : goal.decreases-by_rule
-decreases-by_rule l = 128 * l.levels + 95
+abbrev pub decreases-nesting::by_rule : goal.decreases-nesting::by_rule
+decreases-nesting::by_rule l = 128 * l.nesting_left + 95
 
-abbrev pub invariant-joined-loop-turn : goal.invariant-joined-loop-turn
-invariant-joined-loop-turn l =
-    Grows l.fn.levels l.fn.level (side (inner l.fn.levels) l.fn.level) l.fn.text (l._turn-end - l._turn) l.fn.code.items l.code.items l.left.is_variable l.left.rest.now
+abbrev pub invariant-binary_operators::joined-loop-turn : goal.invariant-binary_operators::joined-loop-turn
+invariant-binary_operators::joined-loop-turn l =
+    Grows l.fn.nesting_left l.fn.level (side (inner l.fn.nesting_left) l.fn.level) l.fn.text (l._turn-end - l._turn) l.fn.code.items l.code.items l.left.is_variable l.left.rest.now

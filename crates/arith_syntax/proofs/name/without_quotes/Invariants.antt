@@ -1,6 +1,0 @@
-use Rattle.std.proofs.Common.{◌≡◌, take}
-use Rattle.arith_syntax.specs.Names.{without_quotes}
-use Rattle.arith_syntax.proofs.name.without_quotes.Given as goal
-
-abbrev pub invariant-loop-byte : goal.invariant-loop-byte
-invariant-loop-byte l = l.kept ≡ without_quotes (take l.byte-index l.text)
