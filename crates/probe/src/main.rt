@@ -1,35 +1,77 @@
-//! Answers requests to the libraries, one a line, for measurements and comparisons. No part of the product.
+//! Answers requests to the libraries, for measurements, comparisons and tests. No part of the product.
 //!
-//! It reads one request a line from standard input and writes one answer a line, to the end of the input. Fields are
-//! separated by blanks. A text is lower-case hexadecimal, `-` where it is empty. A list of marks is its marks joined by
-//! commas, `-` where it is empty: `Lhh` a literal, `Rhh` a byte of a result, `Qhh` a quoted byte, each with the byte in
-//! hexadecimal, `E` empty quotes, `B` a break; where several lists are written, an empty one is `.`. A variable is its
-//! name, `=` and its text, the name and the text each written as texts are. A line that is no request answers `what`.
+//! Without arguments it reads one request a line from standard input and writes one answer a line, to the end of the
+//! input. With arguments `rows FILE..` it checks the rows of these files, `REQUEST => ANSWER` a line, prints each that
+//! differs, and at the end `N rows, M differ`; its status is 1 where one differs. Empty lines and lines that begin with
+//! `#` may stand between rows.
+//!
+//! Fields are separated by blanks. A text is lower-case hexadecimal, `-` where it is empty, or readable in double
+//! quotes: printable bytes as they are, `\"`, `\\`, `\n`, `\t`, `\xHH`. Texts are joined by `+`, and `64*` before one
+//! says how often it stands there. Answers to standard input write texts in hexadecimal.
+//!
+//! A list of marks is its marks joined by commas, `-` where it is empty: `L` and a text for literals, `R` for bytes of a
+//! result, `Q` for quoted bytes, `E` for empty quotes, `B` for a break; `64*` may stand before one. Answers write each
+//! mark alone, its byte in hexadecimal. A name of a variable is written as it is.
+//!
+//! | request | answer |
+//! |---|---|
+//! | `words TEXT` | the words, then `joined` and the text of them with one blank between two |
 #![tactic(auto)]
 
+mod answer;
 mod arithmetic;
+mod bytes;
 mod eapis;
 mod entries;
-mod field;
+mod fault;
 mod marks;
 mod names;
 mod patterns;
+mod place;
 mod request;
+mod rows;
 mod splits;
+mod text;
+mod token;
+mod variables;
 mod versions;
 
+use crate::answer::Style;
 use crate::request::answer;
-use eb_bytes::Memory;
+use crate::rows::check_files;
 use std::alloc::AllocError;
-use std::io;
+use std::process::ExitCode;
+use std::{env, io};
 
-fn main(rt: HostRuntime) -> io::Result<()> {
+fn answer_lines(rt: &HostRuntime) -> io::Result<()> {
     for line in rt.lines(rt.alloc()) {
         let line = line?;
-        match answer(rt.alloc(), line.as_str().as_bytes()) {
-            Ok(text) => println!(rt; "{text}")?,
-            Err(Memory) => return Err(AllocError.into()),
-        }
+        let answer = answer(rt.alloc(), line.as_str().as_bytes(), Style::Hexadecimal);
+        let answer = answer.map_err(|_| AllocError)?;
+        println!(rt; "{}", answer.line())?;
     }
     Ok(())
+}
+
+fn run(rt: &HostRuntime) -> io::Result<ExitCode> {
+    let words: Vec<String> = env::args(rt)?.skip(1).collect(rt.alloc())?;
+    match words.as_slice() {
+        [] => {
+            answer_lines(rt)?;
+            Ok(ExitCode::SUCCESS)
+        }
+        [word, files @ ..] if word.as_str() == "rows" && !files.is_empty() => {
+            let count = check_files(rt, files)?;
+            println!(rt; "{} rows, {} differ", count.rows, count.differ)?;
+            Ok(ExitCode::from(u8::from(count.differ > 0)))
+        }
+        _ => {
+            eprintln!(rt; "usage: probe [rows FILE..]")?;
+            Ok(ExitCode::from(2))
+        }
+    }
+}
+
+fn main(rt: HostRuntime) -> io::Result<ExitCode> {
+    run(&rt)
 }
