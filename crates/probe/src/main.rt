@@ -16,6 +16,28 @@
 //! | request | answer |
 //! |---|---|
 //! | `words TEXT` | the words, then `joined` and the text of them with one blank between two |
+//! | `decimal TEXT` | the number that the text writes, and the text that writes it; `none` |
+//! | `digest TEXT`; `read_digest TEXT` | the digits of the MD5; the bytes that digits stand for, or `none` |
+//! | `eapi TEXT` | the EAPI that an ebuild's text names |
+//! | `key EAPI KEY`; `phase EAPI NAME` | has it, accumulates it, each `yes` or `no`; `yes` or `no`; `none` |
+//! | `phases EAPI` | the names of its phase functions, in the order of the phases; `none` |
+//! | `eclass TEXT` | whether it has the form of an eclass's name, `yes` or `no` |
+//! | `entry TEXT` | `ok` and the text that writing the entry gives, or `bad` |
+//! | `version A B` | `less`, `equal` or `greater`; `none` where one is no version |
+//! | `cut RANGE V`; `rs V [RANGE SEP]..` | `ok TEXT`, or the error's name |
+//! | `test A OP B` | `true`, `false`, or the error's name |
+//! | `names CAT PN FILE` | CATEGORY, PN, PV, PR, P, PVR and PF, or `bad` and the part that does not hold |
+//! | `paths CAT PN FILE CAT PN FILE` | `less`, `equal` or `greater` |
+//! | `category TEXT`; `package TEXT`; `flag TEXT` | whether it is the name of one, `yes` or `no` |
+//! | `split IFS MARKS` | the fields as lists of marks, `.` for one without marks; `-` where there is none |
+//! | `matches EXTENDED MARKS TEXT` | `yes` or `no`, or `deep`; `EXTENDED` is 1 where groups are read, else 0 |
+//! | `match EXTENDED MARKS TEXT` | the same, then the shortest and the longest prefix and suffix and the first match |
+//! | `first EXTENDED MARKS TEXT FROM` | the first match from this place on, `BEGIN-END` or `none` |
+//! | `vars CALL..` | what the calls answer, as the head of `data/variables.rows` says |
+//! | `arith TEXT [steps LIMIT] [GIVEN]..` | `ok N` or the fault, `steps N`, then each variable given or set |
+//!
+//! A line that is no request answers `what`. `GIVEN` is `NAME=TEXT`, `NAME[SUBSCRIPT]=TEXT`, or `!NAME` where the name
+//! is readonly.
 #![tactic(auto)]
 
 mod answer;

@@ -28,8 +28,7 @@ fn step(field: &[u8], vars: &mut Vars, answer: &mut Answer) -> Result<(), Fault>
         return ask(call, read_place(rest)?, vars, answer);
     };
     let value = read_value(answer.alloc(), value)?;
-    let made = change(call, read_place(place)?, value, vars)?;
-    refused(made, answer)
+    change(call, read_place(place)?, value, vars, answer)
 }
 
 // A call on frames or subshells, and one without a name.
@@ -53,17 +52,20 @@ fn change(
     place: Place<'_>,
     value: Value,
     vars: &mut Vars,
-) -> Result<Result<(), VarErr>, Fault> {
+    answer: &mut Answer,
+) -> Result<(), Fault> {
     let name = place.name;
-    match (call, place.subscript, value) {
-        (b"set", None, value) => Ok(vars.set(name, value)),
-        (b"set", Some(subscript), Value::Text(text)) => Ok(vars.set_elem(name, subscript, text)),
-        (b"set_global", None, value) => Ok(vars.set_global(name, value)),
-        (b"append", None, value) => Ok(vars.append(name, value)),
-        (b"local", None, value) => Ok(vars.local(name, Some(value))),
-        (b"bind", None, value) if vars.is_prefix_open() => Ok(vars.bind(name, value)),
-        _ => Err(Fault::NoRequest),
-    }
+    let made = match (call, place.subscript, value) {
+        (b"set", None, value) => vars.set(name, value),
+        (b"set", Some(subscript), Value::Text(text)) => vars.set_elem(name, subscript, text),
+        (b"set_global", None, value) => vars.set_global(name, value),
+        (b"append", None, value) => vars.append(name, value),
+        (b"local", None, value) => vars.local(name, Some(value)),
+        (b"bind", None, value) if vars.is_prefix_open() => vars.bind(name, value),
+        (b"bind", None, _) => return answer.word("closed"),
+        _ => return Err(Fault::NoRequest),
+    };
+    refused(made, answer)
 }
 
 // A call without a value.
