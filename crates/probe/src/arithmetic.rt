@@ -6,6 +6,7 @@ use crate::place::{is_name, is_name_byte, read_name, read_place, refusal_word};
 use crate::text::read_text;
 use crate::token::cut;
 use crate::variables::READONLY;
+use arith_syntax::{ReadErr, Refusal};
 use bash_arith::{ArithErr, eval};
 use eb_bytes::{Budget, Bytes, Memory, Steps, read_decimal};
 use shell_vars::{Value, VarErr, Vars};
@@ -154,4 +155,24 @@ fn put_variable(name: &Bytes, index: &str, text: &Bytes, answer: &mut Answer) ->
     answer.push_name(name.as_slice())?;
     answer.push_word(index)?;
     answer.push_text(text.as_slice())
+}
+
+/// `read LEVELS TEXT`: `ok` and how many instructions the expression has, where so many nestings may be open at once, or
+/// the refusal's name.
+pub fn read(fields: &[&[u8]], answer: &mut Answer) -> Result<(), Fault> {
+    let [levels, text] = fields else {
+        return Err(Fault::NoRequest);
+    };
+    let levels = read_decimal(levels).ok_or(Fault::NoRequest)?;
+    let levels = u8::try_from(levels).map_err(|_| Fault::NoRequest)?;
+    let text = read_text(answer.alloc(), text)?;
+    match arith_syntax::read(answer.alloc(), text.as_slice(), levels) {
+        Ok(code) => {
+            answer.word("ok")?;
+            answer.number(code.len() as u64)
+        }
+        Err(ReadErr::Refused(Refusal::Syntax)) => answer.word("Syntax"),
+        Err(ReadErr::Refused(Refusal::Nesting)) => answer.word("Nesting"),
+        Err(ReadErr::Memory) => Err(Fault::Memory),
+    }
 }

@@ -35,6 +35,7 @@
 //! | `first EXTENDED MARKS TEXT FROM` | the first match from this place on, `BEGIN-END` or `none` |
 //! | `vars CALL..` | what the calls answer, as the head of `data/variables.rows` says |
 //! | `arith TEXT [steps LIMIT] [GIVEN]..` | `ok N` or the fault, `steps N`, then each variable given or set |
+//! | `read LEVELS TEXT` | `ok` and the number of an expression's instructions, or the refusal's name |
 //!
 //! A line that is no request answers `what`. `GIVEN` is `NAME=TEXT`, `NAME[SUBSCRIPT]=TEXT`, or `!NAME` where the name
 //! is readonly.

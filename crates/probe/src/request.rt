@@ -1,5 +1,5 @@
 use crate::answer::{Answer, Style};
-use crate::arithmetic::arith;
+use crate::arithmetic::{arith, read};
 use crate::bytes::{decimal_of, digest, read_digest, words};
 use crate::eapis::{eapi, eclass, key, phase, phases};
 use crate::entries::entry;
@@ -45,6 +45,7 @@ fn put_answer(line: &[u8], answer: &mut Answer) -> Result<(), Fault> {
         b"first" => first(fields, answer),
         b"vars" => vars(fields, answer),
         b"arith" => arith(fields, answer),
+        b"read" => read(fields, answer),
         name => {
             let texts = read_texts(answer.alloc(), fields)?;
             put_answer_to_texts(name, texts.as_slice(), answer)
