@@ -2,13 +2,13 @@ ghost use Rattle.std.specs.Prelude.{◌≡◌, ◌<◌};
 
 use crate::answer::Answer;
 use crate::fault::Fault;
-use crate::place::{is_name, is_name_byte, read_name, read_place, refusal_word};
+use crate::place::{read_name, read_place, refusal_word};
 use crate::text::read_text;
 use crate::token::cut;
 use crate::variables::READONLY;
 use arith_syntax::{ReadErr, Refusal};
 use bash_arith::{ArithErr, eval};
-use eb_bytes::{Budget, Bytes, Memory, Steps, read_decimal};
+use eb_bytes::{Budget, Bytes, Memory, Steps, is_name, is_name_byte, read_decimal};
 use shell_vars::{Value, VarErr, Vars};
 use std::alloc::Global;
 use std::marker::Brand;

@@ -16,7 +16,9 @@
 //! | request | answer |
 //! |---|---|
 //! | `words TEXT` | the words, then `joined` and the text of them with one blank between two |
-//! | `decimal TEXT` | the number that the text writes, and the text that writes it; `none` |
+//! | `unsigned TEXT`; `signed TEXT` | the text of the number that the text writes, or `none` |
+//! | `name TEXT` | whether it is the name of a shell variable, `yes` or `no` |
+//! | `unquoted MARKS..` | the text that quote removal leaves of the lists, one after another |
 //! | `digest TEXT`; `read_digest TEXT` | the digits of the MD5; the bytes that digits stand for, or `none` |
 //! | `eapi TEXT` | the EAPI that an ebuild's text names |
 //! | `key EAPI KEY`; `phase EAPI NAME` | has it, accumulates it, each `yes` or `no`; `yes` or `no`; `none` |

@@ -1,7 +1,7 @@
 use crate::fault::Fault;
-use crate::text::{counted, read_part};
+use crate::text::{counted, read_byte, read_part};
 use crate::token::parts;
-use eb_bytes::{Mark, Marked};
+use eb_bytes::{Mark, Marked, Origin};
 use std::alloc::Global;
 
 /// The marks that a field stands for. They are joined by commas, `-` where there is none. `L`, `R` and `Q` with a text
@@ -21,26 +21,30 @@ pub fn read_marks(alloc: Global, field: &[u8]) -> Result<Marked, Fault> {
     Ok(marks)
 }
 
+// Puts the marks of a part without a count at the end.
 fn push_part(alloc: Global, marks: &mut Marked, part: &[u8]) -> Result<(), Fault> {
     match part {
         [b'E'] => marks.push(Mark::Empty)?,
         [b'B'] => marks.push(Mark::Break)?,
+        [kind, high, low] => {
+            let byte = read_byte(*high, *low).ok_or(Fault::NoRequest)?;
+            marks.push(origin_of(*kind)?.mark(byte))?;
+        }
         [kind, text @ ..] => {
-            for byte in read_part(alloc, text)?.as_slice() {
-                marks.push(byte_mark(*kind, *byte).ok_or(Fault::NoRequest)?)?;
-            }
+            let text = read_part(alloc, text)?;
+            marks.extend(text.as_slice(), origin_of(*kind)?)?;
         }
         [] => return Err(Fault::NoRequest),
     }
     Ok(())
 }
 
-fn byte_mark(kind: u8, byte: u8) -> Option<Mark> {
+fn origin_of(kind: u8) -> Result<Origin, Fault> {
     match kind {
-        b'L' => Some(Mark::Literal(byte)),
-        b'R' => Some(Mark::Result(byte)),
-        b'Q' => Some(Mark::Quoted(byte)),
-        _ => None,
+        b'L' => Ok(Origin::Literal),
+        b'R' => Ok(Origin::Result),
+        b'Q' => Ok(Origin::Quoted),
+        _ => Err(Fault::NoRequest),
     }
 }
 

@@ -1,5 +1,6 @@
 use crate::fault::Fault;
 use crate::token::cut;
+use eb_bytes::{is_name, read_signed};
 use shell_vars::VarErr;
 
 /// A variable, or an element of one.
@@ -9,8 +10,7 @@ pub struct Place<'a> {
     pub subscript: Option<i64>,
 }
 
-/// The variable that a field names, `NAME`, or the element, `NAME[SUBSCRIPT]`. A name is a letter or `_`, and letters,
-/// digits and `_` after it.
+/// The variable that a field names, `NAME`, or the element, `NAME[SUBSCRIPT]`.
 pub fn read_place(field: &[u8]) -> Result<Place<'_>, Fault> {
     let Some((name, subscript)) = cut(field, b'[') else {
         let name = read_name(field)?;
@@ -23,8 +23,11 @@ pub fn read_place(field: &[u8]) -> Result<Place<'_>, Fault> {
         return Err(Fault::NoRequest);
     };
     let name = read_name(name)?;
-    let subscript = Some(read_subscript(digits)?);
-    Ok(Place { name, subscript })
+    let subscript = read_signed(digits).ok_or(Fault::NoRequest)?;
+    Ok(Place {
+        name,
+        subscript: Some(subscript),
+    })
 }
 
 /// The name that a field is.
@@ -33,27 +36,6 @@ pub fn read_name(field: &[u8]) -> Result<&[u8], Fault> {
         Ok(field)
     } else {
         Err(Fault::NoRequest)
-    }
-}
-
-// The number that these digits are, perhaps after a `-`.
-fn read_subscript(digits: &[u8]) -> Result<i64, Fault> {
-    match std::str::from_utf8(digits) {
-        Ok(digits) => digits.parse::<i64>().map_err(|_| Fault::NoRequest),
-        Err(_) => Err(Fault::NoRequest),
-    }
-}
-
-/// Whether a byte may stand in a name.
-pub fn is_name_byte(byte: u8) -> bool {
-    byte.is_ascii_alphanumeric() || byte == b'_'
-}
-
-/// Whether a text is a name.
-pub fn is_name(text: &[u8]) -> bool {
-    match text.first() {
-        Some(first) => !first.is_ascii_digit() && text.iter().all(|byte| is_name_byte(*byte)),
-        None => false,
     }
 }
 

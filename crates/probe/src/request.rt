@@ -1,6 +1,6 @@
 use crate::answer::{Answer, Style};
 use crate::arithmetic::{arith, read};
-use crate::bytes::{decimal_of, digest, read_digest, words};
+use crate::bytes::{digest, name, read_digest, signed, unquoted, unsigned, words};
 use crate::eapis::{eapi, eclass, key, phase, phases};
 use crate::entries::entry;
 use crate::fault::Fault;
@@ -35,10 +35,11 @@ fn no_request(alloc: Global, style: Style) -> Result<Answer, Memory> {
 fn put_answer(line: &[u8], answer: &mut Answer) -> Result<(), Fault> {
     let mut fields = parts(answer.alloc(), line, b' ')?;
     fields.retain(|field| !field.is_empty());
-    let [name, fields @ ..] = fields.as_slice() else {
+    let [request, fields @ ..] = fields.as_slice() else {
         return Err(Fault::NoRequest);
     };
-    match *name {
+    match *request {
+        b"unquoted" => unquoted(fields, answer),
         b"split" => split(fields, answer),
         b"match" => match_pattern(fields, answer),
         b"matches" => matches(fields, answer),
@@ -46,18 +47,20 @@ fn put_answer(line: &[u8], answer: &mut Answer) -> Result<(), Fault> {
         b"vars" => vars(fields, answer),
         b"arith" => arith(fields, answer),
         b"read" => read(fields, answer),
-        name => {
+        request => {
             let texts = read_texts(answer.alloc(), fields)?;
-            put_answer_to_texts(name, texts.as_slice(), answer)
+            put_answer_to_texts(request, texts.as_slice(), answer)
         }
     }
 }
 
 // The answers to requests whose fields are all texts.
-fn put_answer_to_texts(name: &[u8], texts: &[Bytes], answer: &mut Answer) -> Result<(), Fault> {
-    match name {
+fn put_answer_to_texts(request: &[u8], texts: &[Bytes], answer: &mut Answer) -> Result<(), Fault> {
+    match request {
         b"words" => words(texts, answer),
-        b"decimal" => decimal_of(texts, answer),
+        b"unsigned" => unsigned(texts, answer),
+        b"signed" => signed(texts, answer),
+        b"name" => name(texts, answer),
         b"digest" => digest(texts, answer),
         b"read_digest" => read_digest(texts, answer),
         b"eapi" => eapi(texts, answer),

@@ -2,7 +2,7 @@ ghost use Rattle.std.specs.Prelude.{◌<◌, ◌≤◌, IfSome, length};
 
 use crate::fault::Fault;
 use crate::token::parts;
-use eb_bytes::{Bytes, read_decimal};
+use eb_bytes::{Bytes, is_digit, is_upper, read_decimal};
 use hex::FromHexError;
 use std::alloc::Global;
 
@@ -31,7 +31,7 @@ pub fn read_texts(alloc: Global, fields: &[&[u8]]) -> Result<Vec<Bytes>, Fault> 
 
 /// How often something stands, and what: `64*` in front says so, and it stands once where nothing does.
 pub fn counted(part: &[u8]) -> Result<(u64, &[u8]), Fault> {
-    let digits = part.iter().take_while(|byte| byte.is_ascii_digit()).count();
+    let digits = part.iter().take_while(|byte| is_digit(**byte)).count();
     match part.split_at(digits) {
         (count, [b'*', rest @ ..]) => {
             let count = read_decimal(count).ok_or(Fault::NoRequest)?;
@@ -51,7 +51,7 @@ pub fn read_part(alloc: Global, part: &[u8]) -> Result<Bytes, Fault> {
 }
 
 fn read_hexadecimal(alloc: Global, digits: &[u8]) -> Result<Bytes, Fault> {
-    if digits.is_empty() || digits.iter().any(|digit| digit.is_ascii_uppercase()) {
+    if digits.is_empty() || digits.iter().any(|digit| is_upper(*digit)) {
         return Err(Fault::NoRequest);
     }
     match hex::decode(alloc, digits) {
@@ -70,7 +70,7 @@ fn read_quoted(alloc: Global, inner: &[u8]) -> Result<Bytes, Fault> {
             break;
         }
         let (byte, others) = first_byte(rest).ok_or(Fault::NoRequest)?;
-        text.extend(&[byte])?;
+        text.push(byte)?;
         rest = others;
     }
     Ok(text)
@@ -81,7 +81,7 @@ fn first_byte(text: &[u8]) -> Option<(u8, &[u8])> {
     match text {
         [b'\\', b'n', rest @ ..] => Some((b'\n', rest)),
         [b'\\', b't', rest @ ..] => Some((b'\t', rest)),
-        [b'\\', b'x', high, low, rest @ ..] => Some((byte_of(*high, *low)?, rest)),
+        [b'\\', b'x', high, low, rest @ ..] => Some((read_byte(*high, *low)?, rest)),
         [b'\\', byte @ (b'"' | b'\\'), rest @ ..] => Some((*byte, rest)),
         [b'"' | b'\\', ..] => None,
         [byte @ b' '..=b'~', rest @ ..] => Some((*byte, rest)),
@@ -89,8 +89,8 @@ fn first_byte(text: &[u8]) -> Option<(u8, &[u8])> {
     }
 }
 
-// The byte of two lower-case hexadecimal digits.
-fn byte_of(high: u8, low: u8) -> Option<u8> {
+/// The byte of two lower-case hexadecimal digits.
+pub fn read_byte(high: u8, low: u8) -> Option<u8> {
     Some(digit_value(high)? * 16 + digit_value(low)?)
 }
 
