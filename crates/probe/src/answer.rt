@@ -75,7 +75,7 @@ impl Answer {
     /// Writes a text at the end of the last field.
     pub fn push_text(&mut self, text: &[u8]) -> Result<(), Fault> {
         match self.style {
-            Style::Hexadecimal => push_hexadecimal(&mut self.line, text),
+            Style::Hexadecimal => push_hexadecimal(self.alloc, &mut self.line, text),
             Style::Readable => push_quoted(&mut self.line, text),
         }
     }

@@ -101,6 +101,6 @@ fn push_plain(alloc: Global, plain: &mut String, part: &[u8]) -> Result<(), Faul
     }
     match part {
         [b'L' | b'R' | b'Q', ..] => push_marks(plain, read_marks(alloc, part)?.as_slice()),
-        _ => push_hexadecimal(plain, read_text(alloc, part)?.as_slice()),
+        _ => push_hexadecimal(alloc, plain, read_text(alloc, part)?.as_slice()),
     }
 }

@@ -13,8 +13,19 @@ pub fn read_text(alloc: Global, field: &[u8]) -> Result<Bytes, Fault> {
     for part in parts(alloc, field, b'+')? {
         let (count, part) = counted(part)?;
         let part = read_part(alloc, part)?;
-        for _ in 0..count {
-            text.extend(part.as_slice())?;
+        text.extend(repeated(alloc, part.as_slice(), count)?.as_slice())?;
+    }
+    Ok(text)
+}
+
+// The text that stands so often, by doubling it for each bit of the number.
+fn repeated(alloc: Global, part: &[u8], count: u64) -> Result<Bytes, Fault> {
+    let mut text = Bytes::new(alloc);
+    for bit in 0..64u32 {
+        let half = text.copy(alloc)?;
+        text.extend(half.as_slice())?;
+        if (count >> (63 - bit)) & 1 == 1 {
+            text.extend(part)?;
         }
     }
     Ok(text)
@@ -105,12 +116,11 @@ fn digit_value(digit: u8) -> Option<u8>
 }
 
 /// Writes a text in hexadecimal at the end of a line.
-pub fn push_hexadecimal(line: &mut String, text: &[u8]) -> Result<(), Fault> {
+pub fn push_hexadecimal(alloc: Global, line: &mut String, text: &[u8]) -> Result<(), Fault> {
     if text.is_empty() {
         line.push_str("-")?;
-    }
-    for byte in text {
-        write!(line, "{byte:02x}")?;
+    } else {
+        line.push_str(hex::encode(alloc, text)?.as_str())?;
     }
     Ok(())
 }
