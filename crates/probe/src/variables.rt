@@ -3,7 +3,7 @@ use crate::fault::Fault;
 use crate::place::{Place, read_place, refusal_word};
 use crate::text::read_text;
 use crate::token::{cut, parts};
-use eb_bytes::{Memory, read_decimal};
+use eb_bytes::read_decimal;
 use shell_vars::{Attr, Elements, FrameKind, Value, VarErr, Vars};
 use std::alloc::Global;
 
@@ -74,6 +74,7 @@ fn ask(call: &[u8], place: Place<'_>, vars: &mut Vars, answer: &mut Answer) -> R
     match (call, place.subscript) {
         (b"get", None) => put_value(vars.get(name), answer),
         (b"global", None) => put_value(vars.global(name), answer),
+        (b"copy", None) => copy(vars.get(name), answer),
         (b"attr", None) => answer.word(attributes_word(vars.attr(name))),
         (b"local", None) => refused(vars.local(name, None), answer),
         (b"readonly", None) => refused(vars.mark(name, READONLY), answer),
@@ -127,6 +128,17 @@ fn put_value(value: Option<&Value>, answer: &mut Answer) -> Result<(), Fault> {
     }
 }
 
+// Puts a copy of the value.
+fn copy(value: Option<&Value>, answer: &mut Answer) -> Result<(), Fault> {
+    match value {
+        Some(value) => {
+            let copy = value.copy(answer.alloc())?;
+            put_value(Some(&copy), answer)
+        }
+        None => put_value(None, answer),
+    }
+}
+
 fn put_elements(elements: &Elements, answer: &mut Answer) -> Result<(), Fault> {
     answer.word("(")?;
     for (place, (index, text)) in elements.as_slice().iter().enumerate() {
@@ -154,6 +166,9 @@ fn read_elements(alloc: Global, inner: &[u8]) -> Result<Elements, Fault> {
     for part in parts(alloc, inner, b',')? {
         let (index, text) = cut(part, b'=').ok_or(Fault::NoRequest)?;
         let index = read_decimal(index).ok_or(Fault::NoRequest)?;
+        if index >= 1 << 63 {
+            return Err(Fault::NoRequest);
+        }
         elements.insert(index, read_text(alloc, text)?)?;
     }
     Ok(elements)
