@@ -20,8 +20,8 @@ const STEPS: u64 = 5_000_000;
 /// `arith TEXT [steps LIMIT] [GIVEN]..`: `ok` and the expression's number, or the fault's name and what it tells;
 /// `steps` and how many were used; then each variable that was given or set, in the order of the names.
 ///
-/// `GIVEN` is `NAME=TEXT`, `NAME[SUBSCRIPT]=TEXT`, or `!NAME` for a readonly name. A variable is told as it is given. One
-/// that was not given is told where its name stands in one of the texts, without double quotes in it.
+/// `GIVEN` is `NAME=TEXT`, `NAME[SUBSCRIPT]=TEXT`, or `!NAME` for a readonly name. A variable is told as it is given.
+/// One that was not given is told where its name stands in one of the texts, without double quotes in it.
 pub fn arith(fields: &[&[u8]], answer: &mut Answer) -> Result<(), Fault> {
     let [text, given @ ..] = fields else {
         return Err(Fault::NoRequest);
@@ -157,8 +157,8 @@ fn put_variable(name: &Bytes, index: &str, text: &Bytes, answer: &mut Answer) ->
     answer.push_text(text.as_slice())
 }
 
-/// `read LEVELS TEXT`: `ok` and how many instructions the expression has, where so many nestings may be open at once, or
-/// the refusal's name.
+/// `read LEVELS TEXT`: `ok` and how many instructions the expression has, where so many nestings may be open at once,
+/// or the refusal's name.
 pub fn read(fields: &[&[u8]], answer: &mut Answer) -> Result<(), Fault> {
     let [levels, text] = fields else {
         return Err(Fault::NoRequest);

@@ -34,7 +34,8 @@ pub fn unsigned(texts: &[Bytes], answer: &mut Answer) -> Result<(), Fault> {
     }
 }
 
-/// `signed TEXT`: the text of the number that is read from the text, which may have a sign and leading zeros, or `none`.
+/// `signed TEXT`: the text of the number that is read from the text, which may have a sign and leading zeros, or
+/// `none`.
 pub fn signed(texts: &[Bytes], answer: &mut Answer) -> Result<(), Fault> {
     let [text] = texts else {
         return Err(Fault::NoRequest);

@@ -9,8 +9,8 @@
 //! quotes: printable bytes as they are, `\"`, `\\`, `\n`, `\t`, `\xHH`. Texts are joined by `+`, and `64*` before one
 //! says how often it stands there. Answers to standard input write texts in hexadecimal.
 //!
-//! A list of marks is its marks joined by commas, `-` where it is empty: `L` and a text for literals, `R` for bytes of a
-//! result, `Q` for quoted bytes, `E` for empty quotes, `B` for a break; `64*` may stand before one. Answers write each
+//! A list of marks is its marks joined by commas, `-` where it is empty: `L` and a text for literals, `R` for bytes of
+//! a result, `Q` for quoted bytes, `E` for empty quotes, `B` for a break; `64*` may stand before one. Answers write each
 //! mark alone, its byte in hexadecimal. A name of a variable is written as it is.
 //!
 //! | request | answer |
