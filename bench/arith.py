@@ -29,7 +29,7 @@ def cases(size):
     """The name of each case, its expression, its variables, its number and its steps"""
     count = size // 2
     yield "1+1+..", b"+".join([b"1"] * count), b"", count, 0
-    yield "x+x+..", b"+".join([b"x"] * count), b" 78=31", count, count
+    yield "x+x+..", b"+".join([b"x"] * count), b" x=31", count, count
     yield "1,1,..", b",".join([b"1"] * count), b"", 1, 0
     yield "1?2:3,..", b",".join([b"1?2:3"] * (size // 6)), b"", 2, 0
     yield "one constant", b"7" * size, b"", signed(sevens(size)), 0

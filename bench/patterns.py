@@ -1,15 +1,17 @@
 #!/usr/bin/env python3
 """Usage: patterns.py [PROGRAM [RUNS]]
 
-Times patterns on texts of SIZE bytes and of twice that, as probe_times.py says. A request makes eight walks over the
-text: one for `matches`, one for each of four searches, two for the first match, and what is left of it for the third.
-Ends with 1 where an answer is wrong.
+Times patterns on texts of SIZE bytes and of twice that, as probe_times.py says: `match`, which makes eight walks over
+the text (one for `matches`, one for each of four searches, two for the first match, and what is left of it for the
+third); and a pattern of as many brackets that never close, on one of them. Ends with 1 where an answer is wrong, or
+where SIZE brackets take more than a second.
 """
 import sys
 
 from probe_times import hexadecimal, time_requests
 
 SIZE = 1 << 20
+LIMIT = (SIZE, 1)
 
 
 def cases(n):
@@ -27,12 +29,17 @@ def cases(n):
     yield "!(*a??????????)b", b"!(*a??????????)b", b"ab" * (n // 2), f"no 2 10 {n - 1} {n - 11} 0-10".encode()
 
 
-def requests(size):
-    """The name of each case, its request, and the answer"""
+def searches(size):
+    """The name of each case of `match`, its request, and the answer"""
     for name, pattern, text, answer in cases(size):
         marks = b",".join(b"L%02x" % byte for byte in pattern)
-        yield f"{name} ({len(text)})", b" ".join((b"match", b"1", marks, hexadecimal(text))), answer
+        yield f"match {name} ({len(text)})", b" ".join((b"match", b"1", marks, hexadecimal(text))), answer
+
+
+def brackets(size):
+    """The name of the case of brackets that never close, its request, and the answer"""
+    yield "matches [[[..", b"matches 0 L" + b"5b" * size + b" 5b", b"no"
 
 
 if __name__ == "__main__":
-    sys.exit(time_requests(SIZE, requests, "bytes"))
+    sys.exit(time_requests(SIZE, searches, "bytes") | time_requests(SIZE, brackets, "bytes", LIMIT))

@@ -41,7 +41,8 @@ def hexadecimal(text):
 
 def time_requests(size, requests, unit, limit=None):
     """Times what `requests` gives at the size and at twice that: the name of each case, its request, and the answer.
-    Gives 1 where an answer is wrong, or where a case takes more than `limit` seconds at the size, else 0."""
+    `limit` is a size and the seconds that a case may take at most up to there, without the reading of the line. Gives 1
+    where an answer is wrong or a case takes longer, else 0."""
     here = os.path.dirname(os.path.abspath(__file__))
     program = sys.argv[1] if len(sys.argv) > 1 else os.path.join(here, "../crates/probe/out/probe")
     runs = int(sys.argv[2]) if len(sys.argv) > 2 else 3
@@ -50,8 +51,8 @@ def time_requests(size, requests, unit, limit=None):
         for name, request, answer in requests(now):
             idle, was_what = best(program, runs, b"none" + request, b"what")
             seconds, is_right = best(program, runs, request, answer)
-            in_time = limit is None or now > size or seconds <= limit
+            in_time = limit is None or now > limit[0] or seconds - idle <= limit[1]
             all_right &= is_right and was_what and in_time
             wrong = ("" if is_right else ", WRONG") + ("" if in_time else ", TOO SLOW")
-            print(f"{name}, {now} {unit}: {seconds:.3f} s, a line that is no request {idle:.3f} s{wrong}")
+            print(f"{name}, {now} {unit}: {seconds:.3f} s, a line that is no request {idle:.3f} s{wrong}", flush=True)
     return 0 if all_right else 1

@@ -2,14 +2,14 @@
 """Usage: split.py [PROGRAM [RUNS]]
 
 Times the splitting of lists of SIZE marks and of twice that, as probe_times.py says. Ends with 1 where an answer is
-wrong, or where SIZE marks take more than LIMIT seconds.
+wrong, or where SIZE marks take more than half a second.
 """
 import sys
 
 from probe_times import hexadecimal, time_requests
 
 SIZE = 1 << 20
-LIMIT = 0.5
+LIMIT = (SIZE, 0.5)
 
 
 def requests(size):

@@ -1,21 +1,21 @@
-use crate::field::{what, word, write_text};
-use eb_bytes::{Bytes, Memory};
+use crate::answer::Answer;
+use crate::fault::Fault;
+use eb_bytes::Bytes;
 use md5_cache::{EntryErr, read_entry, write_entry};
-use std::alloc::Global;
 
 /// `entry TEXT`: `ok` and the text that writing the entry of this text gives, or `bad` where it is that of none.
-pub fn entry(alloc: Global, texts: &[Bytes]) -> Result<String, Memory> {
+pub fn entry(texts: &[Bytes], answer: &mut Answer) -> Result<(), Fault> {
     let [text] = texts else {
-        return what(alloc);
+        return Err(Fault::NoRequest);
     };
-    match read_entry(alloc, text.as_slice()) {
+    match read_entry(answer.alloc(), text.as_slice()) {
         Ok(entry) => {
-            let text = write_entry(alloc, &entry)?;
-            let text = write_text(alloc, text.as_slice())?;
-            Ok(format!(in alloc; "ok {text}")?)
+            let text = write_entry(answer.alloc(), &entry)?;
+            answer.word("ok")?;
+            answer.text(text.as_slice())
         }
         // A text is never incomplete, only bad.
-        Err(EntryErr::BadEntry | EntryErr::Incomplete) => word(alloc, "bad"),
-        Err(EntryErr::Memory) => Err(Memory),
+        Err(EntryErr::BadEntry | EntryErr::Incomplete) => answer.word("bad"),
+        Err(EntryErr::Memory) => Err(Fault::Memory),
     }
 }

@@ -1,35 +1,102 @@
-//! Answers requests to the libraries, one a line, for measurements and comparisons. No part of the product.
+//! Answers requests to the libraries, for measurements, comparisons and tests. No part of the product.
 //!
-//! It reads one request a line from standard input and writes one answer a line, to the end of the input. Fields are
-//! separated by blanks. A text is lower-case hexadecimal, `-` where it is empty. A list of marks is its marks joined by
-//! commas, `-` where it is empty: `Lhh` a literal, `Rhh` a byte of a result, `Qhh` a quoted byte, each with the byte in
-//! hexadecimal, `E` empty quotes, `B` a break; where several lists are written, an empty one is `.`. A variable is its
-//! name, `=` and its text, the name and the text each written as texts are. A line that is no request answers `what`.
+//! Without arguments it reads one request a line from standard input and writes one answer a line, to the end of the
+//! input. With arguments `rows FILE..` it checks the rows of these files, `REQUEST => ANSWER` a line, prints each that
+//! differs, and at the end `N rows, M differ`; its status is 1 where one differs. Empty lines and lines that begin with
+//! `#` may stand between rows.
+//!
+//! Fields are separated by blanks. A text is lower-case hexadecimal, `-` where it is empty, or readable in double
+//! quotes: printable bytes as they are, `\"`, `\\`, `\n`, `\t`, `\xHH`. Texts are joined by `+`, and `64*` before one
+//! says how often it stands there. Answers to standard input write texts in hexadecimal.
+//!
+//! A list of marks is its marks joined by commas, `-` where it is empty: `L` and a text for literals, `R` for bytes of
+//! a result, `Q` for quoted bytes, `E` for empty quotes, `B` for a break; `64*` may stand before one. Answers write each
+//! mark alone, its byte in hexadecimal. A name of a variable is written as it is.
+//!
+//! | request | answer |
+//! |---|---|
+//! | `words TEXT` | the words, then `joined` and the text of them with one blank between two |
+//! | `unsigned TEXT`; `signed TEXT` | the text of the number that the text writes, or `none` |
+//! | `name TEXT` | whether it is the name of a shell variable, `yes` or `no` |
+//! | `unquoted MARKS..` | the text that quote removal leaves of the lists, one after another |
+//! | `digest TEXT`; `read_digest TEXT` | the digits of the MD5; the bytes that digits stand for, or `none` |
+//! | `eapi TEXT` | the EAPI that an ebuild's text names |
+//! | `key EAPI KEY`; `phase EAPI NAME` | has it, accumulates it, each `yes` or `no`; `yes` or `no`; `none` |
+//! | `phases EAPI` | the names of its phase functions, in the order of the phases; `none` |
+//! | `eclass TEXT` | whether it has the form of an eclass's name, `yes` or `no` |
+//! | `entry TEXT` | `ok` and the text that writing the entry gives, or `bad` |
+//! | `version A B` | `less`, `equal` or `greater`; `none` where one is no version |
+//! | `cut RANGE V`; `rs V [RANGE SEP]..` | `ok TEXT`, or the error's name |
+//! | `test A OP B` | `true`, `false`, or the error's name |
+//! | `names CAT PN FILE` | CATEGORY, PN, PV, PR, P, PVR and PF, or `bad` and the part that does not hold |
+//! | `paths CAT PN FILE CAT PN FILE` | `less`, `equal` or `greater` |
+//! | `category TEXT`; `package TEXT`; `flag TEXT` | whether it is the name of one, `yes` or `no` |
+//! | `split IFS MARKS` | the fields as lists of marks, `.` for one without marks; `-` where there is none |
+//! | `matches EXTENDED MARKS TEXT` | `yes` or `no`, or `deep`; `EXTENDED` is 1 where groups are read, else 0 |
+//! | `match EXTENDED MARKS TEXT` | the same, then the shortest and the longest prefix and suffix and the first match |
+//! | `first EXTENDED MARKS TEXT FROM` | the first match from this place on, `BEGIN-END` or `none` |
+//! | `vars CALL..` | what the calls answer, as the head of `data/variables.rows` says |
+//! | `arith TEXT [steps LIMIT] [GIVEN]..` | `ok N` or the fault, `steps N`, then each variable given or set |
+//! | `read LEVELS TEXT` | `ok` and the number of an expression's instructions, or the refusal's name |
+//!
+//! A line that is no request answers `what`. `GIVEN` is `NAME=TEXT`, `NAME[SUBSCRIPT]=TEXT`, or `!NAME` where the name
+//! is readonly.
 #![tactic(auto)]
 
+mod answer;
 mod arithmetic;
+mod bytes;
 mod eapis;
 mod entries;
-mod field;
+mod fault;
 mod marks;
 mod names;
 mod patterns;
+mod place;
 mod request;
+mod rows;
 mod splits;
+mod text;
+mod token;
+mod variables;
 mod versions;
 
+use crate::answer::Style;
 use crate::request::answer;
-use eb_bytes::Memory;
+use crate::rows::check_files;
 use std::alloc::AllocError;
-use std::io;
+use std::process::ExitCode;
+use std::{env, io};
 
-fn main(rt: HostRuntime) -> io::Result<()> {
+fn answer_lines(rt: &HostRuntime) -> io::Result<()> {
     for line in rt.lines(rt.alloc()) {
         let line = line?;
-        match answer(rt.alloc(), line.as_str().as_bytes()) {
-            Ok(text) => println!(rt; "{text}")?,
-            Err(Memory) => return Err(AllocError.into()),
-        }
+        let answer = answer(rt.alloc(), line.as_str().as_bytes(), Style::Hexadecimal);
+        let answer = answer.map_err(|_| AllocError)?;
+        println!(rt; "{}", answer.line())?;
     }
     Ok(())
+}
+
+fn run(rt: &HostRuntime) -> io::Result<ExitCode> {
+    let words: Vec<String> = env::args(rt)?.skip(1).collect(rt.alloc())?;
+    match words.as_slice() {
+        [] => {
+            answer_lines(rt)?;
+            Ok(ExitCode::SUCCESS)
+        }
+        [word, files @ ..] if word.as_str() == "rows" && !files.is_empty() => {
+            let count = check_files(rt, files)?;
+            println!(rt; "{} rows, {} differ", count.rows, count.differ)?;
+            Ok(ExitCode::from(u8::from(count.differ > 0)))
+        }
+        _ => {
+            eprintln!(rt; "usage: probe [rows FILE..]")?;
+            Ok(ExitCode::from(2))
+        }
+    }
+}
+
+fn main(rt: HostRuntime) -> io::Result<ExitCode> {
+    run(&rt)
 }

@@ -1,84 +1,74 @@
-ghost use Rattle.std.specs.Prelude.{◌<◌, IfSome};
-
-use crate::field::word;
-use eb_bytes::{Bytes, Mark, Marked, Memory};
+use crate::fault::Fault;
+use crate::text::{counted, read_byte, read_part};
+use crate::token::parts;
+use eb_bytes::{Mark, Marked, Origin};
 use std::alloc::Global;
 
-// The value of a hexadecimal digit in lower case.
-fn digit_value(digit: u8) -> Option<u8>
-    ensures { IfSome result (λ value. value < 16) }
-{
-    match digit {
-        b'0'..=b'9' => Some(digit - b'0'),
-        b'a'..=b'f' => Some(digit - b'a' + 10),
-        _ => None,
-    }
-}
-
-// The mark of a byte.
-fn byte_mark(kind: u8, byte: u8) -> Option<Mark> {
-    match kind {
-        b'L' => Some(Mark::Literal(byte)),
-        b'R' => Some(Mark::Result(byte)),
-        b'Q' => Some(Mark::Quoted(byte)),
-        _ => None,
-    }
-}
-
-// The mark that is written so.
-fn read_mark(text: &[u8]) -> Option<Mark> {
-    match text {
-        [b'E'] => Some(Mark::Empty),
-        [b'B'] => Some(Mark::Break),
-        [kind, high, low] => {
-            let high = digit_value(*high)?;
-            let low = digit_value(*low)?;
-            byte_mark(*kind, high * 16 + low)
-        }
-        _ => None,
-    }
-}
-
-/// The marks that a field stands for, if it is a list of marks: they are joined by commas, `-` where there is none.
-/// `Lhh`, `Rhh` and `Qhh` are the byte of two lower-case hexadecimal digits as a literal, a result and a quoted one,
-/// `E` is an empty pair of quotes, and `B` a break.
-pub fn read_marks(alloc: Global, field: &Bytes) -> Result<Option<Marked>, Memory> {
+/// The marks that a field stands for. They are joined by commas, `-` where there is none. `L`, `R` and `Q` with a text
+/// after them are its bytes as literals, as bytes of a result and as quoted ones, `E` is an empty pair of quotes, and
+/// `B` a break, each perhaps with how often it stands there, as in `64*L"@("`.
+pub fn read_marks(alloc: Global, field: &[u8]) -> Result<Marked, Fault> {
     let mut marks = Marked::new(alloc);
-    if field.as_slice() == b"-".as_slice() {
-        return Ok(Some(marks));
+    if field == b"-".as_slice() {
+        return Ok(marks);
     }
-    for text in field.as_slice().split(|byte| *byte == b',') {
-        let Some(mark) = read_mark(text) else {
-            return Ok(None);
-        };
-        marks.push(mark)?;
+    for part in parts(alloc, field, b',')? {
+        let (count, part) = counted(part)?;
+        for _ in 0..count {
+            push_part(alloc, &mut marks, part)?;
+        }
     }
-    Ok(Some(marks))
+    Ok(marks)
 }
 
-// Writes a mark at the end of a text.
-fn push_mark(text: &mut String, mark: Mark) -> Result<(), Memory> {
-    match mark {
-        Mark::Literal(byte) => write!(text, "L{byte:02x}")?,
-        Mark::Result(byte) => write!(text, "R{byte:02x}")?,
-        Mark::Quoted(byte) => write!(text, "Q{byte:02x}")?,
-        Mark::Empty => text.push_str("E")?,
-        Mark::Break => text.push_str("B")?,
+// Puts the marks of a part without a count at the end.
+fn push_part(alloc: Global, marks: &mut Marked, part: &[u8]) -> Result<(), Fault> {
+    match part {
+        [b'E'] => marks.push(Mark::Empty)?,
+        [b'B'] => marks.push(Mark::Break)?,
+        [kind, high, low] => {
+            let byte = read_byte(*high, *low).ok_or(Fault::NoRequest)?;
+            marks.push(origin_of(*kind)?.mark(byte))?;
+        }
+        [kind, text @ ..] => {
+            let text = read_part(alloc, text)?;
+            marks.extend(text.as_slice(), origin_of(*kind)?)?;
+        }
+        [] => return Err(Fault::NoRequest),
     }
     Ok(())
 }
 
-/// The field that stands for these marks.
-pub fn write_marks(alloc: Global, marks: &[Mark]) -> Result<String, Memory> {
-    if marks.is_empty() {
-        return word(alloc, "-");
+fn origin_of(kind: u8) -> Result<Origin, Fault> {
+    match kind {
+        b'L' => Ok(Origin::Literal),
+        b'R' => Ok(Origin::Result),
+        b'Q' => Ok(Origin::Quoted),
+        _ => Err(Fault::NoRequest),
     }
-    let mut text = String::new(alloc);
+}
+
+/// Writes marks at the end of a line.
+pub fn push_marks(line: &mut String, marks: &[Mark]) -> Result<(), Fault> {
+    if marks.is_empty() {
+        line.push_str("-")?;
+    }
     for (place, mark) in marks.iter().enumerate() {
         if place > 0 {
-            text.push_str(",")?;
+            line.push_str(",")?;
         }
-        push_mark(&mut text, *mark)?;
+        push_mark(line, *mark)?;
     }
-    Ok(text)
+    Ok(())
+}
+
+fn push_mark(line: &mut String, mark: Mark) -> Result<(), Fault> {
+    match mark {
+        Mark::Literal(byte) => write!(line, "L{byte:02x}")?,
+        Mark::Result(byte) => write!(line, "R{byte:02x}")?,
+        Mark::Quoted(byte) => write!(line, "Q{byte:02x}")?,
+        Mark::Empty => line.push_str("E")?,
+        Mark::Break => line.push_str("B")?,
+    }
+    Ok(())
 }

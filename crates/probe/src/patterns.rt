@@ -1,60 +1,105 @@
-use crate::field::{read_text, what, word};
+use crate::answer::Answer;
+use crate::fault::Fault;
 use crate::marks::read_marks;
+use crate::text::read_text;
 use bash_patterns::{PatErr, Pattern};
-use eb_bytes::{Bytes, Memory};
+use eb_bytes::{Bytes, read_decimal};
 use std::alloc::Global;
+
+// A pattern, if its groups are not nested too deep, and a text.
+#[derive(Drop)]
+struct Question {
+    pattern: Option<Pattern>,
+    text: Bytes,
+}
+
+fn read_question(
+    alloc: Global,
+    extended: &[u8],
+    marks: &[u8],
+    text: &[u8],
+) -> Result<Question, Fault> {
+    let extended = match extended {
+        b"0" => false,
+        b"1" => true,
+        _ => return Err(Fault::NoRequest),
+    };
+    let marks = read_marks(alloc, marks)?;
+    let text = read_text(alloc, text)?;
+    match Pattern::compile(alloc, &marks, extended) {
+        Ok(pattern) => Ok(Question {
+            pattern: Some(pattern),
+            text,
+        }),
+        Err(PatErr::TooDeep) => Ok(Question {
+            pattern: None,
+            text,
+        }),
+        Err(PatErr::Memory) => Err(Fault::Memory),
+    }
+}
+
+/// `matches EXTENDED MARKS TEXT`: whether the pattern matches the text; `deep` where its groups are nested too deep.
+pub fn matches(fields: &[&[u8]], answer: &mut Answer) -> Result<(), Fault> {
+    let [extended, marks, text] = fields else {
+        return Err(Fault::NoRequest);
+    };
+    let asked = read_question(answer.alloc(), extended, marks, text)?;
+    match &asked.pattern {
+        Some(pattern) => answer.yes_or_no(pattern.matches(asked.text.as_slice())?),
+        None => answer.word("deep"),
+    }
+}
 
 /// `match EXTENDED MARKS TEXT`: whether the pattern matches the text, then the places of the shortest and the longest
 /// prefix, of the shortest and the longest suffix, and of the first match; `deep` where its groups are nested too deep.
-pub fn match_pattern(alloc: Global, fields: &[Bytes]) -> Result<String, Memory> {
+pub fn match_pattern(fields: &[&[u8]], answer: &mut Answer) -> Result<(), Fault> {
     let [extended, marks, text] = fields else {
-        return what(alloc);
+        return Err(Fault::NoRequest);
     };
-    let Some(extended) = read_flag(extended.as_slice()) else {
-        return what(alloc);
+    let asked = read_question(answer.alloc(), extended, marks, text)?;
+    let text = asked.text.as_slice();
+    let Some(pattern) = &asked.pattern else {
+        return answer.word("deep");
     };
-    let Some(marks) = read_marks(alloc, marks)? else {
-        return what(alloc);
+    answer.yes_or_no(pattern.matches(text)?)?;
+    put_place(pattern.shortest_prefix(text)?, answer)?;
+    put_place(pattern.longest_prefix(text)?, answer)?;
+    put_place(pattern.shortest_suffix(text)?, answer)?;
+    put_place(pattern.longest_suffix(text)?, answer)?;
+    put_places(pattern.first_match(text, 0)?, answer)
+}
+
+/// `first EXTENDED MARKS TEXT FROM`: the places of the first match that begins at this place or after it; `deep` where
+/// the groups are nested too deep.
+pub fn first(fields: &[&[u8]], answer: &mut Answer) -> Result<(), Fault> {
+    let [extended, marks, text, from] = fields else {
+        return Err(Fault::NoRequest);
     };
-    let Some(text) = read_text(alloc, text)? else {
-        return what(alloc);
-    };
-    match Pattern::compile(alloc, &marks, extended) {
-        Ok(pattern) => found(alloc, &pattern, text.as_slice()),
-        Err(PatErr::TooDeep) => word(alloc, "deep"),
-        Err(PatErr::Memory) => Err(Memory),
+    let asked = read_question(answer.alloc(), extended, marks, text)?;
+    let from = read_decimal(from).ok_or(Fault::NoRequest)?;
+    match &asked.pattern {
+        Some(pattern) => {
+            let found = pattern.first_match(asked.text.as_slice(), from as usize)?;
+            put_places(found, answer)
+        }
+        None => answer.word("deep"),
     }
 }
 
-fn read_flag(field: &[u8]) -> Option<bool> {
-    match field {
-        b"0" => Some(false),
-        b"1" => Some(true),
-        _ => None,
-    }
-}
-
-fn found(alloc: Global, pattern: &Pattern, text: &[u8]) -> Result<String, Memory> {
-    let does = if pattern.matches(text)? { "yes" } else { "no" };
-    let shortest = place(alloc, pattern.shortest_prefix(text)?)?;
-    let longest = place(alloc, pattern.longest_prefix(text)?)?;
-    let prefixes = format!(in alloc; "{shortest} {longest}")?;
-    let shortest = place(alloc, pattern.shortest_suffix(text)?)?;
-    let longest = place(alloc, pattern.longest_suffix(text)?)?;
-    let first = places(alloc, pattern.first_match(text, 0)?)?;
-    Ok(format!(in alloc; "{does} {prefixes} {shortest} {longest} {first}")?)
-}
-
-fn place(alloc: Global, place: Option<usize>) -> Result<String, Memory> {
+fn put_place(place: Option<usize>, answer: &mut Answer) -> Result<(), Fault> {
     match place {
-        Some(place) => Ok(format!(in alloc; "{place}")?),
-        None => word(alloc, "none"),
+        Some(place) => answer.number(place as u64),
+        None => answer.word("none"),
     }
 }
 
-fn places(alloc: Global, places: Option<(usize, usize)>) -> Result<String, Memory> {
+fn put_places(places: Option<(usize, usize)>, answer: &mut Answer) -> Result<(), Fault> {
     match places {
-        Some((begin, end)) => Ok(format!(in alloc; "{begin}-{end}")?),
-        None => word(alloc, "none"),
+        Some((begin, end)) => {
+            let places = format!(in answer.alloc(); "{begin}-{end}")?;
+            answer.word(places.as_str())
+        }
+        None => answer.word("none"),
     }
 }

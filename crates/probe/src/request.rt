@@ -1,52 +1,83 @@
-use crate::arithmetic::arith;
-use crate::eapis::{eapi, key, phase};
+use crate::answer::{Answer, Style};
+use crate::arithmetic::{arith, read};
+use crate::bytes::{digest, name, read_digest, signed, unquoted, unsigned, words};
+use crate::eapis::{eapi, eclass, key, phase, phases};
 use crate::entries::entry;
-use crate::field::{read_texts, what};
-use crate::names::names;
-use crate::patterns::match_pattern;
+use crate::fault::Fault;
+use crate::names::{category, flag, names, package, paths};
+use crate::patterns::{first, match_pattern, matches};
 use crate::splits::split;
+use crate::text::read_texts;
+use crate::token::parts;
+use crate::variables::vars;
 use crate::versions::{cut, rs, test, version};
-use eb_bytes::{Memory, words_of};
+use eb_bytes::{Bytes, Memory};
 use std::alloc::Global;
 
 /// The answer to a line.
-pub fn answer(alloc: Global, line: &[u8]) -> Result<String, Memory> {
-    let fields = words_of(alloc, line)?;
-    let [name, fields @ ..] = fields.as_slice() else {
-        return what(alloc);
+pub fn answer(alloc: Global, line: &[u8], style: Style) -> Result<Answer, Memory> {
+    let mut answer = Answer::new(alloc, style);
+    match put_answer(line, &mut answer) {
+        Ok(()) => Ok(answer),
+        Err(Fault::NoRequest) => no_request(alloc, style),
+        Err(Fault::Memory) => Err(Memory),
+    }
+}
+
+fn no_request(alloc: Global, style: Style) -> Result<Answer, Memory> {
+    let mut answer = Answer::new(alloc, style);
+    match answer.word("what") {
+        Ok(()) => Ok(answer),
+        Err(_) => Err(Memory),
+    }
+}
+
+fn put_answer(line: &[u8], answer: &mut Answer) -> Result<(), Fault> {
+    let mut fields = parts(answer.alloc(), line, b' ')?;
+    fields.retain(|field| !field.is_empty());
+    let [request, fields @ ..] = fields.as_slice() else {
+        return Err(Fault::NoRequest);
     };
-    if name.as_slice() == b"split".as_slice() {
-        return split(alloc, fields);
+    match *request {
+        b"unquoted" => unquoted(fields, answer),
+        b"split" => split(fields, answer),
+        b"match" => match_pattern(fields, answer),
+        b"matches" => matches(fields, answer),
+        b"first" => first(fields, answer),
+        b"vars" => vars(fields, answer),
+        b"arith" => arith(fields, answer),
+        b"read" => read(fields, answer),
+        request => {
+            let texts = read_texts(answer.alloc(), fields)?;
+            put_answer_to_texts(request, texts.as_slice(), answer)
+        }
     }
-    if name.as_slice() == b"arith".as_slice() {
-        return arith(alloc, fields);
-    }
-    if name.as_slice() == b"match".as_slice() {
-        return match_pattern(alloc, fields);
-    }
-    let Some(texts) = read_texts(alloc, fields)? else {
-        return what(alloc);
-    };
-    let (name, texts) = (name.as_slice(), texts.as_slice());
-    if name == b"version".as_slice() {
-        version(alloc, texts)
-    } else if name == b"cut".as_slice() {
-        cut(alloc, texts)
-    } else if name == b"rs".as_slice() {
-        rs(alloc, texts)
-    } else if name == b"test".as_slice() {
-        test(alloc, texts)
-    } else if name == b"names".as_slice() {
-        names(alloc, texts)
-    } else if name == b"eapi".as_slice() {
-        eapi(alloc, texts)
-    } else if name == b"key".as_slice() {
-        key(alloc, texts)
-    } else if name == b"phase".as_slice() {
-        phase(alloc, texts)
-    } else if name == b"entry".as_slice() {
-        entry(alloc, texts)
-    } else {
-        what(alloc)
+}
+
+// The answers to requests whose fields are all texts.
+fn put_answer_to_texts(request: &[u8], texts: &[Bytes], answer: &mut Answer) -> Result<(), Fault> {
+    match request {
+        b"words" => words(texts, answer),
+        b"unsigned" => unsigned(texts, answer),
+        b"signed" => signed(texts, answer),
+        b"name" => name(texts, answer),
+        b"digest" => digest(texts, answer),
+        b"read_digest" => read_digest(texts, answer),
+        b"eapi" => eapi(texts, answer),
+        b"key" => key(texts, answer),
+        b"phase" => phase(texts, answer),
+        b"phases" => phases(texts, answer),
+        b"eclass" => eclass(texts, answer),
+        b"entry" => entry(texts, answer),
+        b"version" => version(texts, answer),
+        b"cut" => cut(texts, answer),
+        b"rs" => rs(texts, answer),
+        b"test" => test(texts, answer),
+        b"names" => names(texts, answer),
+        b"paths" => paths(texts, answer),
+        b"category" => category(texts, answer),
+        b"package" => package(texts, answer),
+        b"flag" => flag(texts, answer),
+        _ => Err(Fault::NoRequest),
     }
 }

@@ -1,71 +1,79 @@
-use crate::field::{what, word, write_text};
-use eb_bytes::{Bytes, Memory};
-use std::alloc::Global;
+use crate::answer::Answer;
+use crate::fault::Fault;
+use eb_bytes::Bytes;
 use std::cmp::Ordering;
 use version_funcs::{VerErr, compare_versions, read_version, ver_cut, ver_rs, ver_test};
 
 /// `version A B`: `less`, `equal` or `greater`, as the first stands to the second; `none` where one is no version.
-pub fn version(alloc: Global, texts: &[Bytes]) -> Result<String, Memory> {
+pub fn version(texts: &[Bytes], answer: &mut Answer) -> Result<(), Fault> {
     let [a, b] = texts else {
-        return what(alloc);
+        return Err(Fault::NoRequest);
     };
     let (a, b) = (a.as_slice(), b.as_slice());
-    if !read_version(a) || !read_version(b) {
-        return word(alloc, "none");
+    if read_version(a) && read_version(b) {
+        answer.word(order_word(compare_versions(a, b)))
+    } else {
+        answer.word("none")
     }
-    match compare_versions(a, b) {
-        Ordering::Less => word(alloc, "less"),
-        Ordering::Equal => word(alloc, "equal"),
-        Ordering::Greater => word(alloc, "greater"),
+}
+
+/// The word of an order.
+pub fn order_word(order: Ordering) -> &'static str {
+    match order {
+        Ordering::Less => "less",
+        Ordering::Equal => "equal",
+        Ordering::Greater => "greater",
     }
 }
 
 /// `cut RANGE V`: `ok` and what is cut out, or the error's name.
-pub fn cut(alloc: Global, texts: &[Bytes]) -> Result<String, Memory> {
+pub fn cut(texts: &[Bytes], answer: &mut Answer) -> Result<(), Fault> {
     let [range, v] = texts else {
-        return what(alloc);
+        return Err(Fault::NoRequest);
     };
-    text_or_error(alloc, ver_cut(alloc, range.as_slice(), v.as_slice()))
+    let made = ver_cut(answer.alloc(), range.as_slice(), v.as_slice());
+    text_or_error(made, answer)
 }
 
-/// `rs V RANGE SEP ..`, with any number of pairs: `ok` and the text with its separators replaced, or the error's name.
-pub fn rs(alloc: Global, texts: &[Bytes]) -> Result<String, Memory> {
+/// `rs V [RANGE SEP]..`: `ok` and the text with its separators replaced, or the error's name.
+pub fn rs(texts: &[Bytes], answer: &mut Answer) -> Result<(), Fault> {
     let [v, pairs @ ..] = texts else {
-        return what(alloc);
+        return Err(Fault::NoRequest);
     };
     if pairs.len() % 2 != 0 {
-        return what(alloc);
+        return Err(Fault::NoRequest);
     }
-    text_or_error(alloc, ver_rs(alloc, pairs, v.as_slice()))
+    let made = ver_rs(answer.alloc(), pairs, v.as_slice());
+    text_or_error(made, answer)
 }
 
 /// `test A OP B`: `true`, `false`, or the error's name.
-pub fn test(alloc: Global, texts: &[Bytes]) -> Result<String, Memory> {
+pub fn test(texts: &[Bytes], answer: &mut Answer) -> Result<(), Fault> {
     let [a, op, b] = texts else {
-        return what(alloc);
+        return Err(Fault::NoRequest);
     };
     match ver_test(a.as_slice(), op.as_slice(), b.as_slice()) {
-        Ok(true) => word(alloc, "true"),
-        Ok(false) => word(alloc, "false"),
-        Err(error) => error_name(alloc, error),
+        Ok(true) => answer.word("true"),
+        Ok(false) => answer.word("false"),
+        Err(error) => put_error(error, answer),
     }
 }
 
-fn text_or_error(alloc: Global, answer: Result<Bytes, VerErr>) -> Result<String, Memory> {
-    match answer {
+fn text_or_error(made: Result<Bytes, VerErr>, answer: &mut Answer) -> Result<(), Fault> {
+    match made {
         Ok(text) => {
-            let text = write_text(alloc, text.as_slice())?;
-            Ok(format!(in alloc; "ok {text}")?)
+            answer.word("ok")?;
+            answer.text(text.as_slice())
         }
-        Err(error) => error_name(alloc, error),
+        Err(error) => put_error(error, answer),
     }
 }
 
-fn error_name(alloc: Global, error: VerErr) -> Result<String, Memory> {
+fn put_error(error: VerErr, answer: &mut Answer) -> Result<(), Fault> {
     match error {
-        VerErr::BadRange => word(alloc, "BadRange"),
-        VerErr::BadVersion => word(alloc, "BadVersion"),
-        VerErr::BadOperator => word(alloc, "BadOperator"),
-        VerErr::Memory => Err(Memory),
+        VerErr::BadRange => answer.word("BadRange"),
+        VerErr::BadVersion => answer.word("BadVersion"),
+        VerErr::BadOperator => answer.word("BadOperator"),
+        VerErr::Memory => Err(Fault::Memory),
     }
 }

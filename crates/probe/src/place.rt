@@ -1,0 +1,52 @@
+use crate::fault::Fault;
+use crate::token::cut;
+use eb_bytes::{is_name, read_signed};
+use shell_vars::VarErr;
+
+/// A variable, or an element of one.
+#[derive(Clone, Copy, Debug)]
+pub struct Place<'a> {
+    pub name: &'a [u8],
+    pub subscript: Option<i64>,
+}
+
+/// The variable that a field names, `NAME`, or the element, `NAME[SUBSCRIPT]`.
+pub fn read_place(field: &[u8]) -> Result<Place<'_>, Fault> {
+    let Some((name, subscript)) = cut(field, b'[') else {
+        let name = read_name(field)?;
+        return Ok(Place {
+            name,
+            subscript: None,
+        });
+    };
+    let [digits @ .., b']'] = subscript else {
+        return Err(Fault::NoRequest);
+    };
+    let name = read_name(name)?;
+    let subscript = read_signed(digits).ok_or(Fault::NoRequest)?;
+    Ok(Place {
+        name,
+        subscript: Some(subscript),
+    })
+}
+
+/// The name that a field is.
+pub fn read_name(field: &[u8]) -> Result<&[u8], Fault> {
+    if is_name(field) {
+        Ok(field)
+    } else {
+        Err(Fault::NoRequest)
+    }
+}
+
+/// The name of a refusal.
+pub fn refusal_word(refusal: VarErr) -> Result<&'static str, Fault> {
+    match refusal {
+        VarErr::Readonly => Ok("Readonly"),
+        VarErr::LocalOutside => Ok("LocalOutside"),
+        VarErr::BadSubscript => Ok("BadSubscript"),
+        VarErr::ValueSize => Ok("ValueSize"),
+        VarErr::TotalSize => Ok("TotalSize"),
+        VarErr::Memory => Err(Fault::Memory),
+    }
+}
