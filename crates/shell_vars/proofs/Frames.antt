@@ -9,7 +9,7 @@ use Rattle.std.proofs.lemmas.List.{nil_from_length}
 use Rattle.std.proofs.lemmas.List.Sums.{sum_by-cons}
 use Rattle.eb_bytes.specs.Text.{Text}
 use Rattle.shell_vars.specs.declared.binding.Binding.{Binding}
-use Rattle.shell_vars.specs.Store.{Names, Frame, Store, binding_at, held_at, with_names, bind_at, unbind_at, names_size, binding_size, size, Counts, Global, unset_here, admitted}
+use Rattle.shell_vars.specs.Store.{Names, Frame, Store, binding_at, held_at, with_names, bind_at, unbind_at, names_size, binding_size, size, Counts, Global, unset_here, kinds, admitted}
 use Rattle.shell_vars.specs.Value.{value_size}
 use Rattle.shell_vars.specs.declared.error.VarErr.TheVariants.{TotalSize}
 use Rattle.std.proofs.lemmas.Bool.Decides.{nat_tests}
@@ -40,6 +40,12 @@ pub length-with_names : (change : Names → Names) (i : ℕ) (s : Store) → len
 length-with_names change i [] = refl
 length-with_names change zero (f ∷ fs) = refl
 length-with_names change (suc i) (f ∷ fs) = ap suc (length-with_names change i fs)
+
+-- the kinds of the frames stay
+pub kinds-with_names : (change : Names → Names) (i : ℕ) (s : Store) → kinds (with_names change i s) ≡ kinds s
+kinds-with_names change i [] = refl
+kinds-with_names change zero (f ∷ fs) = refl
+kinds-with_names change (suc i) (f ∷ fs) = ap (λ t. f.kind ∷ t) (kinds-with_names change i fs)
 
 -- the size of a name's binding, where it has one
 abbrev pub bound_size : Text → Option Binding → ℕ

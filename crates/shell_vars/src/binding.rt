@@ -10,9 +10,11 @@ use std::alloc::Global;
 
 /// What a frame says of a name: its value, or without one the mark "unset here", and its attributes.
 #[derive(Drop)]
-pub(crate) struct Binding {
-    pub(crate) value: Option<Value>,
-    pub(crate) attr: Attr,
+pub struct Binding {
+    /// The value; none where the name is marked "unset here".
+    pub value: Option<Value>,
+    /// The attributes.
+    pub attr: Attr,
 }
 
 impl Binding {

@@ -1,7 +1,6 @@
 ghost use Rattle.std.specs.Prelude.{◌≡◌, ◌^◌, ◌<◌, ◌++◌, [], unwrap_or, IfOk, IfErr, IfSome, OnOk, Some};
 ghost use Rattle.std.specs.FinMap as map;
-ghost use Rattle.shell_vars.specs.Elements.{index_of};
-ghost use Rattle.shell_vars.specs.Value.{elements_of, checked, with_element, element_set, appended};
+ghost use Rattle.shell_vars.specs.Value.{elements_of, checked, with_element, element_set, text_given, assigned, appended};
 ghost use Rattle.shell_vars.specs.Calls.{rebound, rewritten, lessened};
 ghost use Rattle.shell_vars.specs.Store.{unset_here};
 ghost use Rattle.shell_vars.specs.Stores.{Refuses};
@@ -12,7 +11,7 @@ use crate::binding::Binding;
 use crate::change::Change;
 use crate::elements::Elements;
 use crate::error::VarErr;
-use crate::value::{Value, element, next_index};
+use crate::value::Value;
 use eb_bytes::{Bytes, Memory};
 use std::alloc::Global;
 
@@ -33,13 +32,36 @@ pub(crate) fn plan_element(held: &Binding, at: i64, text: Bytes) -> Result<Chang
     if held.attr.readonly {
         return Err(VarErr::Readonly);
     }
-    match index(&held.value, at) {
+    match Value::index(held.value.as_ref(), at) {
         Some(index) => plan_text(held, index, text),
         None => Err(VarErr::BadSubscript),
     }
 }
 
-/// How a binding gets a value behind its own.
+/// How a binding is given this text, or its element that a subscript means is.
+pub(crate) fn plan_assign(held: &Binding, at: Option<i64>, text: Bytes) -> Result<Change, VarErr>
+    ensures { Plans result (rewritten (assigned at text) held.now) held.now }
+{
+    match at {
+        Some(at) => plan_element(held, at, text),
+        None => plan_given(held, text),
+    }
+}
+
+// How a binding is given this text.
+fn plan_given(held: &Binding, text: Bytes) -> Result<Change, VarErr>
+    ensures { Plans result (rewritten (text_given text) held.now) held.now }
+{
+    if held.attr.readonly {
+        return Err(VarErr::Readonly);
+    }
+    match held.value {
+        Some(Value::Array(_)) => plan_text(held, 0, text),
+        _ => plan_value(held, Value::Text(text)),
+    }
+}
+
+/// How a binding gets a value after its own.
 pub(crate) fn plan_append(alloc: Global, held: &Binding, value: Value) -> Result<Change, VarErr>
     ensures { Plans result (rewritten (appended value) held.now) held.now }
 {
@@ -59,10 +81,10 @@ pub(crate) fn plan_without(held: &Binding, at: i64) -> Result<Option<Change>, Va
     if held.attr.readonly {
         return Err(VarErr::Readonly);
     }
-    let Some(index) = index(&held.value, at) else {
+    let Some(index) = Value::index(held.value.as_ref(), at) else {
         return Err(VarErr::BadSubscript);
     };
-    if element(&held.value, index).is_some() {
+    if Value::element(held.value.as_ref(), index).is_some() {
         Ok(Some(Change::Without(index)))
     } else {
         Ok(None)
@@ -74,7 +96,7 @@ pub(crate) fn plan_nowhere(at: i64) -> Result<(), VarErr>
     ensures ok { OnOk result (lessened at unset_here ≡ Ok unset_here) }
     ensures refused { IfErr result (λ e. Refuses e (lessened at unset_here)) }
 {
-    match index(&None, at) {
+    match Value::index(None, at) {
         Some(_) => Ok(()),
         None => Err(VarErr::BadSubscript),
     }
@@ -128,7 +150,7 @@ fn plan_append_array(held: &Binding, more: Elements) -> Result<Change, VarErr>
     if held.value.is_none() {
         return plan_value(held, Value::Array(more));
     }
-    let room = (1u64 << 63) - next_index(&held.value);
+    let room = (1u64 << 63) - Value::next_index(held.value.as_ref());
     if more.len() as u64 > room {
         return Err(VarErr::BadSubscript);
     }
@@ -156,16 +178,4 @@ fn join_texts(alloc: Global, first: &[u8], second: &[u8]) -> Result<Bytes, Memor
     let mut joined = Bytes::from_slice(alloc, first)?;
     joined.extend(second)?;
     Ok(joined)
-}
-
-// The index that a subscript means.
-fn index(value: &Option<Value>, at: i64) -> Option<u64>
-    ensures value { result ≡ index_of (elements_of value.now) at }
-    ensures within { IfSome result (λ index. index < 2 ^ 63) }
-{
-    if at >= 0 {
-        Some(at as u64)
-    } else {
-        next_index(value).checked_sub(at.unsigned_abs())
-    }
 }

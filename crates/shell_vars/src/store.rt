@@ -1,6 +1,6 @@
 ghost use Rattle.std.specs.Prelude.{◌≡◌, ◌↔◌, ◌+◌, ◌-◌, ◌<◌, ◌≤◌, ◌^◌, [], ◌∷◌, ◌++◌, min, length, sum_by, is_some, IsTrue, IsSome, IfOk, IfErr, IfSome, IfNone, OnOk, OnErr, MatchOption};
 ghost use Rattle.std.specs.Option.{option_copied};
-ghost use Rattle.shell_vars.specs.Store.{holder as holder_of, call_depth as call_depth_of, target as target_of, global_depth, binding_at, held_at, bind_at, unbind_at, unset_here, size, admitted};
+ghost use Rattle.shell_vars.specs.Store.{holder as holder_of, call_depth as call_depth_of, target as target_of, global_depth, binding_at, held_at, bind_at, unbind_at, unset_here, size, kinds, admitted};
 ghost use Rattle.shell_vars.specs.Stores.{Refuses};
 ghost use Rattle.shell_vars.specs.Changes.{changed, CanChange, new_name, lost as loses, gained as gains};
 ghost use Rattle.shell_vars.specs.Calls.{fresh, is_prefix_open as prefix_open, push_frame as pushed, pop_frame as popped};
@@ -124,6 +124,7 @@ impl Store {
         requires within { depth < length self.old }
         requires can { CanChange change (held_at depth name.now self.old) }
         ensures ok { OnOk result (admitted (bind_at depth name.now (changed change (held_at depth name.now self.old)) self.old) ≡ Ok self.new) }
+        ensures kinds { kinds self.new ≡ kinds self.old }
         ensures refused { IfErr result (λ e. Refuses e (admitted (bind_at depth name.now (changed change (held_at depth name.now self.old)) self.old))) }
         ensures unchanged { OnErr result (self.new ≡ self.old) }
     {
@@ -138,7 +139,8 @@ impl Store {
     /// Takes the binding of a name away there, if it has one.
     pub(crate) fn unbind(&mut self, depth: usize, name: &[u8])
         requires { depth < length self.old }
-        ensures { self.new ≡ unbind_at depth name.now self.old }
+        ensures means { self.new ≡ unbind_at depth name.now self.old }
+        ensures kinds { kinds self.new ≡ kinds self.old }
     {
         let freed = self.bound_size(depth, name);
         self.frames[depth].remove(name);

@@ -1,13 +1,16 @@
-ghost use Rattle.std.specs.Prelude.{◌≡◌, ◌-◌, ◌^◌, ◌<◌, ◌≤◌, min, IsTrue, Some, IfOk, OnOk, OnErr};
+ghost use Rattle.std.specs.Prelude.{◌≡◌, ◌-◌, ◌^◌, ◌<◌, ◌≤◌, min, IsTrue, Some, IfOk, IfErr, IfSome, OnOk, OnErr};
 ghost use Rattle.std.specs.FinMap as map;
 ghost use Rattle.std.specs.Option.{option_copied};
-ghost use Rattle.shell_vars.specs.Elements.{can_join, joined};
+ghost use Rattle.shell_vars.specs.Elements.{can_join, index_of, joined};
 ghost use Rattle.shell_vars.specs.Elements.{next_index as next_index_of};
-ghost use Rattle.shell_vars.specs.Value.{elements_of, value_size, are_short};
+ghost use Rattle.shell_vars.specs.Value.{elements_of, value_size, are_short, element_set};
+ghost use Rattle.shell_vars.specs.Value.{element as element_of};
+ghost use Rattle.shell_vars.specs.Stores.{Answers};
 ghost use Rattle.shell_vars.specs.Changes.{size_at};
 ghost use Rattle.shell_vars.specs.declared.value.Value.TheVariants as of;
 
 use crate::elements::Elements;
+use crate::error::VarErr;
 use eb_bytes::{Bytes, Memory};
 use std::alloc::Global;
 
@@ -32,6 +35,79 @@ impl Value {
             Value::Text(text) => Ok(Value::Text(Bytes::from_slice(alloc, text.as_slice())?)),
             Value::Array(elements) => Ok(Value::Array(elements.copy(alloc)?)),
         }
+    }
+
+    /// The index that a subscript means: a negative one has the greatest index plus one added. None where it is negative
+    /// still.
+    pub fn index(value: Option<&Value>, at: i64) -> Option<u64>
+        ensures value { result ≡ index_of (elements_of (option_copied value.entry)) at }
+        ensures within { IfSome result (λ index. index < 2 ^ 63) }
+    {
+        if at >= 0 {
+            Some(at as u64)
+        } else {
+            Value::next_index(value).checked_sub(at.unsigned_abs())
+        }
+    }
+
+    /// One more than the greatest index, and 0 without elements: a text is its own element 0.
+    pub fn next_index(value: Option<&Value>) -> u64
+        ensures value { result ≡ next_index_of (elements_of (option_copied value.entry)) }
+        ensures within { result ≤ 2 ^ 63 }
+    {
+        match value {
+            None => 0,
+            Some(Value::Text(_)) => 1,
+            Some(Value::Array(elements)) => elements.next_index(),
+        }
+    }
+
+    /// The element at an index: a text is its own element 0.
+    pub fn element(value: Option<&Value>, at: u64) -> Option<&Bytes>
+        ensures { option_copied result ≡ map.get (elements_of (option_copied value.entry)) at }
+    {
+        match value {
+            None => None,
+            Some(Value::Text(text)) => text_element(text, at),
+            Some(Value::Array(elements)) => elements.get(at),
+        }
+    }
+
+    /// The element that a subscript means; without a subscript, element 0.
+    ///
+    /// # Errors
+    /// `BadSubscript` where a negative subscript has no index.
+    pub fn element_at(value: Option<&Value>, at: Option<i64>) -> Result<Option<&Bytes>, VarErr>
+        ensures found { IfOk result (λ text. element_of at (option_copied value.entry) ≡ Ok (option_copied text)) }
+        ensures refused { IfErr result (λ e. element_of at (option_copied value.entry) ≡ Err e) }
+    {
+        match Value::index(value, at.unwrap_or(0)) {
+            Some(index) => Ok(Value::element(value, index)),
+            None => Err(VarErr::BadSubscript),
+        }
+    }
+
+    /// A copy of a value with this text as the element that a subscript means; a text is element 0 of an array first.
+    ///
+    /// # Errors
+    /// `BadSubscript` where a negative subscript has no index, `ValueSize`, in this order, and `Memory`.
+    pub fn with_element(
+        alloc: Global,
+        value: Option<&Value>,
+        at: i64,
+        text: Bytes,
+    ) -> Result<Value, VarErr>
+        ensures { Answers result (element_set at text (option_copied value.entry)) }
+    {
+        let Some(index) = Value::index(value, at) else {
+            return Err(VarErr::BadSubscript);
+        };
+        if text.len() > 1_048_576 {
+            return Err(VarErr::ValueSize);
+        }
+        let mut elements = copy_elements(alloc, value)?;
+        elements.insert(index, text)?;
+        Ok(Value::Array(elements))
     }
 
     /// Whether the text, or each element by itself, has at most 1,048,576 bytes.
@@ -69,20 +145,9 @@ pub(crate) fn size_of(value: &Option<Value>) -> u64
 pub(crate) fn element_size(value: &Option<Value>, at: u64) -> u64
     ensures { result ≡ min (size_at at value.now) (2 ^ 64 - 1) }
 {
-    match element(value, at) {
+    match Value::element(value.as_ref(), at) {
         Some(text) => (text.len() as u64).saturating_add(16),
         None => 0,
-    }
-}
-
-/// The element that has this index: a text is its own element 0.
-pub(crate) fn element(value: &Option<Value>, at: u64) -> Option<&Bytes>
-    ensures { option_copied result ≡ map.get (elements_of value.now) at }
-{
-    match value {
-        None => None,
-        Some(Value::Text(text)) => text_element(text, at),
-        Some(Value::Array(elements)) => elements.get(at),
     }
 }
 
@@ -93,24 +158,12 @@ fn text_element(text: &Bytes, at: u64) -> Option<&Bytes>
     if at == 0 { Some(text) } else { None }
 }
 
-/// One more than the greatest index, and 0 without elements.
-pub(crate) fn next_index(value: &Option<Value>) -> u64
-    ensures value { result ≡ next_index_of (elements_of value.now) }
-    ensures within { result ≤ 2 ^ 63 }
-{
-    match value {
-        None => 0,
-        Some(Value::Text(_)) => 1,
-        Some(Value::Array(elements)) => elements.next_index(),
-    }
-}
-
 /// A copy of a value's elements.
 ///
 /// # Errors
 /// `Memory` where there is no room for it.
-pub(crate) fn copy_elements(alloc: Global, value: &Option<Value>) -> Result<Elements, Memory>
-    ensures { IfOk result (λ elements. elements ≡ elements_of value.now) }
+pub(crate) fn copy_elements(alloc: Global, value: Option<&Value>) -> Result<Elements, Memory>
+    ensures { IfOk result (λ elements. elements ≡ elements_of (option_copied value.entry)) }
 {
     match value {
         None => Ok(Elements::new(alloc)),
@@ -140,7 +193,7 @@ pub(crate) fn put_element(
     if let Some(Value::Array(elements)) = value {
         return elements.insert(at, text);
     }
-    let mut elements = copy_elements(alloc, value)?;
+    let mut elements = copy_elements(alloc, value.as_ref())?;
     elements.insert(at, text)?;
     *value = Some(Value::Array(elements));
     Ok(())
@@ -162,7 +215,7 @@ pub(crate) fn join_elements(
     if let Some(Value::Array(elements)) = value {
         return elements.join(more);
     }
-    let mut elements = copy_elements(alloc, value)?;
+    let mut elements = copy_elements(alloc, value.as_ref())?;
     elements.join(more)?;
     *value = Some(Value::Array(elements));
     Ok(())

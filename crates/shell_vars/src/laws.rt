@@ -1,0 +1,1 @@
+//! Laws: facts about the definitions that no call of its own shows.
