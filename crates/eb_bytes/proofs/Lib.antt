@@ -1,2 +1,4 @@
 pub mod Joined
+pub mod Results
+pub mod Signed
 pub mod WordRuns

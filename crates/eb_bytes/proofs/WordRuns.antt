@@ -1,4 +1,4 @@
--- The first run of bytes between separators, and the runs of what stands behind it.
+-- The first run of bytes between separators, and the runs of what stands after it.
 use Rattle.std.proofs.Common.{◌≡◌, ℕ, ◌+◌, ◌<◌, ◌≤◌, Bool, true, false, not, cond, nat_lt, List, [], ◌∷◌, length, take, drop, get_or, filter, Some, None, refl, sym, ap, subst, ◌∙◌, arith, add-one}
 use Rattle.std.proofs.lemmas.Bool.{ltb-true, ltb-false}
 use Rattle.std.proofs.lemmas.List.{drop_all}
@@ -7,7 +7,7 @@ use Rattle.std.proofs.Math.Seq.{drop-cons}
 use Rattle.std.specs.List.{slice_split, position_or_len, position}
 use Rattle.eb_bytes.specs.Text.{Text, has_bytes}
 
--- where `position` finds a place
+-- where `position` finds one
 pub position_some : (p : ℕ → Bool) (t : Text) (i : ℕ) → position p t ≡ Some i → (i ≡ position_or_len p t) × (position_or_len p t < length t)
 position_some p t i e = cond_found (position_or_len p t) (length t) (nat_lt (position_or_len p t) (length t)) refl i e
   where

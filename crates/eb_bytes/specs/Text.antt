@@ -1,21 +1,11 @@
 -- Texts, their words and their lines.
-use Rattle.std.specs.Prelude.{ℕ, Bool, List, [], ◌∷◌, ◌==◌, ◌||◌, true, false, filter}
+use Rattle.std.specs.Prelude.{ℕ, Bool, List, [], ◌∷◌, true, false, filter}
 use Rattle.std.specs.List.{slice_split, join_with_byte}
+pub use Rattle.eb_bytes.specs.Class.{is_blank, is_newline, is_space}
 
 -- a list of bytes
 abbrev pub Text : Type 0
 Text = List ℕ
-
--- blank and tab
-abbrev pub is_blank : ℕ → Bool
-is_blank b = b == 32 || b == 9
-
--- what stands between two words: blank, tab and newline
-abbrev pub is_space : ℕ → Bool
-is_space b = b == 32 || b == 9 || b == 10
-
-abbrev pub is_newline : ℕ → Bool
-is_newline b = b == 10
 
 abbrev pub has_bytes : Text → Bool
 has_bytes [] = false

@@ -3,9 +3,11 @@ ghost use Rattle.std.specs.Prelude.{◌≡◌, ◌+◌, ◌<◌, ◌≤◌, OnOk
 use crate::steps::Steps;
 use std::marker::Model;
 use std::sync::ledger::Ledger;
+use thiserror::Error;
 
 /// More steps were asked for than the budget had left.
-#[derive(Clone, Copy, Debug, PartialEq, Eq)]
+#[derive(Clone, Copy, Debug, PartialEq, Eq, Error)]
+#[error("out of steps")]
 pub struct Spent;
 
 /// A number of steps that may be used, and how many of them were. Contracts see these two numbers.

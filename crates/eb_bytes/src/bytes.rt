@@ -1,11 +1,13 @@
-ghost use Rattle.std.specs.Prelude.{◌≡◌, [], ◌++◌, length, IfOk, OnOk, OnErr, IsTrue, ◌↔◌};
+ghost use Rattle.std.specs.Prelude.{◌≡◌, [], ◌∷◌, ◌++◌, length, IfOk, OnOk, OnErr, IsTrue, ◌↔◌};
 
 use std::alloc::{AllocError, AllocFailed, Global};
 use std::cmp::Ordering;
 use std::marker::Model;
+use thiserror::Error;
 
-/// Memory ran out.
-#[derive(Clone, Copy, Debug, PartialEq, Eq)]
+/// Out of memory.
+#[derive(Clone, Copy, Debug, PartialEq, Eq, Error)]
+#[error("out of memory")]
 pub struct Memory;
 
 impl From<AllocError> for Memory {
@@ -47,7 +49,13 @@ impl Bytes {
         }
     }
 
-    /// A copy of these bytes.
+    pub(crate) fn from_vec(items: Vec<u8>) -> Bytes
+        ensures { result ≡ items.items }
+    {
+        Bytes { items }
+    }
+
+    /// A copy of a slice.
     ///
     /// # Errors
     /// `Memory` where there is no room for the copy.
@@ -57,6 +65,16 @@ impl Bytes {
         Ok(Bytes {
             items: Vec::from_slice(alloc, text)?,
         })
+    }
+
+    /// A copy of these bytes.
+    ///
+    /// # Errors
+    /// `Memory` where there is no room for the copy.
+    pub fn copy(&self, alloc: Global) -> Result<Bytes, Memory>
+        ensures { IfOk result (λ copy. copy ≡ self.now) }
+    {
+        Bytes::from_slice(alloc, self.as_slice())
     }
 
     /// The bytes, as a slice.
@@ -78,6 +96,18 @@ impl Bytes {
         ensures { IsTrue result ↔ (self.now ≡ []) }
     {
         self.items.is_empty()
+    }
+
+    /// Puts this byte at the end.
+    ///
+    /// # Errors
+    /// `Memory` where there is no room for it; nothing was put then.
+    pub fn push(&mut self, byte: u8) -> Result<(), Memory>
+        ensures ok { OnOk result (self.new ≡ self.old ++ byte ∷ []) }
+        ensures err { OnErr result (self.new ≡ self.old) }
+    {
+        self.items.push(byte)?;
+        Ok(())
     }
 
     /// Puts these bytes at the end.

@@ -1,10 +1,11 @@
-ghost use Rattle.std.specs.Prelude.{◌≡◌, [], ◌∷◌, ◌++◌, OnOk, OnErr};
+ghost use Rattle.std.specs.Prelude.{◌≡◌, [], ◌∷◌, ◌++◌, map, IfOk, OnOk, OnErr};
+ghost use Rattle.eb_bytes.specs.Marks.{unquoted};
 
-use crate::Memory;
-use std::alloc::Global;
+use crate::bytes::{Bytes, Memory};
+use std::alloc::{AllocError, Global};
 use std::marker::Model;
 
-/// A byte of a shell word and where it came from, or a place between such bytes. The names are the Bash Reference
+/// A byte of a shell word and where it came from, or what stands between such bytes. The names are the Bash Reference
 /// Manual's, "Word Splitting" and "Quote Removal": an unquoted expansion's result is split, quoted text is not.
 #[derive(Clone, Copy, Debug, PartialEq, Eq)]
 pub enum Mark {
@@ -18,6 +19,52 @@ pub enum Mark {
     Empty,
     /// The border between two elements of `"$@"`.
     Break,
+}
+
+impl Mark {
+    ghost use Rattle.eb_bytes.specs.Marks.{byte_of};
+
+    /// The byte, where the mark is one.
+    pub fn byte(self) -> Option<u8>
+        ensures { result ≡ byte_of self }
+    {
+        match self {
+            Mark::Literal(byte) | Mark::Result(byte) | Mark::Quoted(byte) => Some(byte),
+            Mark::Empty | Mark::Break => None,
+        }
+    }
+}
+
+/// Where the bytes of a shell word come from.
+#[derive(Clone, Copy, Debug, PartialEq, Eq)]
+pub enum Origin {
+    /// The script, where they are not quoted.
+    Literal,
+    /// An unquoted expansion's result.
+    Result,
+    /// Quotes, or an expansion within double quotes.
+    Quoted,
+}
+
+impl Origin {
+    ghost use Rattle.eb_bytes.specs.Marks.{marked};
+
+    /// The mark of a byte that comes from there.
+    pub fn mark(self, byte: u8) -> Mark
+        ensures { result ≡ marked self byte }
+    {
+        match self {
+            Origin::Literal => Mark::Literal(byte),
+            Origin::Result => Mark::Result(byte),
+            Origin::Quoted => Mark::Quoted(byte),
+        }
+    }
+}
+
+fn bytes_of(alloc: Global, marks: &[Mark]) -> Result<Vec<u8>, AllocError>
+    ensures { IfOk result (λ bytes. bytes.items ≡ unquoted marks.now) }
+{
+    marks.iter().filter_map(|mark| mark.byte()).collect(alloc)
 }
 
 /// A list of marks. Contracts see it as that list.
@@ -36,6 +83,8 @@ impl Model for Marked {
 }
 
 impl Marked {
+    ghost use Rattle.eb_bytes.specs.Marks.{marked};
+
     /// No marks. Takes no memory.
     pub fn new(alloc: Global) -> Marked
         ensures { result ≡ [] }
@@ -55,6 +104,43 @@ impl Marked {
     {
         self.items.push(mark)?;
         Ok(())
+    }
+
+    /// Puts the marks of a text at the end: a mark for each byte, all from the same origin.
+    ///
+    /// # Errors
+    /// `Memory` where there is no room for them; nothing was put then.
+    pub fn extend(&mut self, text: &[u8], origin: Origin) -> Result<(), Memory>
+        ensures ok { OnOk result (self.new ≡ self.old ++ map (marked origin) text.now) }
+        ensures err { OnErr result (self.new ≡ self.old) }
+    {
+        self.items.reserve(text.len())?;
+        for byte in text {
+            self.items.push(origin.mark(*byte)).unwrap();
+        }
+        Ok(())
+    }
+
+    /// Puts these marks at the end.
+    ///
+    /// # Errors
+    /// `Memory` where there is no room for them; nothing was put then.
+    pub fn append(&mut self, more: &[Mark]) -> Result<(), Memory>
+        ensures ok { OnOk result (self.new ≡ self.old ++ more.now) }
+        ensures err { OnErr result (self.new ≡ self.old) }
+    {
+        self.items.extend_from_slice(more)?;
+        Ok(())
+    }
+
+    /// The text that quote removal leaves: the bytes of the marks, in order (Bash Reference Manual, "Quote Removal").
+    ///
+    /// # Errors
+    /// `Memory` where there is no room for it.
+    pub fn unquoted(&self, alloc: Global) -> Result<Bytes, Memory>
+        ensures { IfOk result (λ text. text ≡ unquoted self.now) }
+    {
+        Ok(Bytes::from_vec(bytes_of(alloc, self.as_slice())?))
     }
 
     /// The marks, as a slice.

@@ -1,26 +1,20 @@
 ghost use Rattle.std.specs.Prelude.{◌≡◌, [], ◌∷◌, IfOk, MatchOption, not, position};
 ghost use Rattle.std.specs.List.{position_or_len};
 ghost use Rattle.eb_bytes.specs.Text.{words, norm};
-ghost use Rattle.eb_bytes.specs.Text.{is_space as is_space_byte};
+ghost use Rattle.eb_bytes.specs.Class.{is_space as is_space_byte};
 
 use crate::bytes::{Bytes, Memory};
+use crate::class::is_space;
 use std::alloc::Global;
 
-// Whether a byte stands between two words.
-fn is_space(byte: u8) -> bool
-    ensures { result ≡ is_space_byte byte }
-{
-    matches!(byte, b' ' | b'\t' | b'\n')
-}
-
-// The place of the first byte that is part of a word.
+// Where the first word begins.
 fn word_start(text: &[u8]) -> Option<usize>
     ensures { result ≡ position (λ byte. not (is_space_byte byte)) text.now }
 {
     text.iter().position(|byte| !is_space(*byte))
 }
 
-// The place of the first byte that ends a word.
+// Where the first byte between words stands.
 fn word_end(text: &[u8]) -> Option<usize>
     ensures { result ≡ position is_space_byte text.now }
 {
@@ -37,7 +31,7 @@ fn word_len(text: &[u8]) -> usize
     }
 }
 
-// The first word of a text, and what stands behind it.
+// The first word of a text, and what stands after it.
 fn split_word(text: &[u8]) -> Option<(&[u8], &[u8])>
     ensures { MatchOption result (words text.now ≡ []) (λ cut. words text.now ≡ cut.0.now ∷ words cut.1.now) }
 {

@@ -1,7 +1,8 @@
 use Rattle.std.proofs.Common.{◌≡◌, take, drop, ◌∷◌, not, sym, subst, ap, ◌∙◌, arith}
 use Rattle.std.specs.List.{position_or_len}
 use Rattle.std.proofs.lemmas.List.Sums.{prefix_len-le-length}
-use Rattle.eb_bytes.specs.Text.{Text, is_space, words}
+use Rattle.eb_bytes.specs.Class.{is_space}
+use Rattle.eb_bytes.specs.Text.{Text, words}
 use Rattle.eb_bytes.proofs.WordRuns.{position_some, position_none, no_run, run_at, start}
 use Rattle.eb_bytes.proofs.words.split_word.Goals as goal
 

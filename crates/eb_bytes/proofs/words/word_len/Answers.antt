@@ -1,6 +1,6 @@
 use Rattle.std.proofs.Common.{not, sym, arith}
 use Rattle.std.proofs.lemmas.List.Sums.{prefix_len-le-length}
-use Rattle.eb_bytes.specs.Text.{is_space}
+use Rattle.eb_bytes.specs.Class.{is_space}
 use Rattle.eb_bytes.proofs.WordRuns.{position_some, position_none}
 use Rattle.eb_bytes.proofs.words.word_len.Goals as goal
 
