@@ -1,4 +1,3 @@
 pub mod Joined
 pub mod Results
 pub mod Signed
-pub mod WordRuns

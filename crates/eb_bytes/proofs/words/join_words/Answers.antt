@@ -1,5 +1,10 @@
+use Rattle.std.proofs.Common.{◌≡◌, ◌∷◌, ◌+◌, ◌-◌, length, take, drop, add-one, drop-cons}
 use Rattle.eb_bytes.proofs.Joined.{join-turn}
 use Rattle.eb_bytes.proofs.words.join_words.Goals as goal
 
 pub loop-word-preserved : goal.loop-word-preserved
-loop-word-preserved c = join-turn _ _ _ _ _ _ _ c.in_ok-extend-2.ensures.ok c.in_ok-extend-3.ensures.ok c.in-Some-word.ensures.steps c.loop-word.invariant
+loop-word-preserved c =
+    let others = take (length c.as_slice.result.now - 1) (drop 1 c.as_slice.result.now) in
+    let cut = drop-cons others c.loop-word.word-index c.word-item.result c.loop-word-test.true in
+    let next : drop c.loop-word.word-index others ≡ c.as_slice-in-loop-word.result.now ∷ drop (c.loop-word.word-index + 1) others = rw add-one (cc) in
+    join-turn _ _ _ _ _ _ _ c.in_ok-extend-2.ensures.ok c.in_ok-extend-3.ensures.ok next c.loop-word.invariant
