@@ -1,9 +1,8 @@
 pub mod Calls
 pub mod Changes
 pub mod Elements
-pub mod Numbered
+pub mod Histories
 pub mod Refused
-pub mod Sorted
 pub mod Store
 pub mod Stores
 pub mod Value

@@ -63,7 +63,7 @@ impl Store {
         ensures { Plans result (rewritten (appended value) (held_at depth name.now self.now)) (held_at depth name.now self.now) }
     {
         let mark = Binding::unset_here();
-        plan_append(self.allocator(), self.held(depth, name, &mark), value)
+        plan_append(self.held(depth, name, &mark), value)
     }
 
     // How it loses an element, if it has that.

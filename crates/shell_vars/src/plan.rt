@@ -1,4 +1,4 @@
-ghost use Rattle.std.specs.Prelude.{◌≡◌, ◌^◌, ◌<◌, ◌++◌, [], unwrap_or, IfOk, IfErr, IfSome, OnOk, Some};
+ghost use Rattle.std.specs.Prelude.{◌≡◌, ◌^◌, ◌<◌, IfOk, IfErr, IfSome, OnOk, Some};
 ghost use Rattle.std.specs.FinMap as map;
 ghost use Rattle.shell_vars.specs.Value.{elements_of, checked, with_element, element_set, text_given, assigned, appended};
 ghost use Rattle.shell_vars.specs.Calls.{rebound, rewritten, lessened};
@@ -12,8 +12,10 @@ use crate::change::Change;
 use crate::elements::Elements;
 use crate::error::VarErr;
 use crate::value::Value;
-use eb_bytes::{Bytes, Memory};
-use std::alloc::Global;
+use eb_bytes::Bytes;
+
+/// Bytes in a text, at most.
+const TEXT_LIMIT: usize = 1_048_576;
 
 /// How a binding gets this value.
 pub(crate) fn plan_set(held: &Binding, value: Value) -> Result<Change, VarErr>
@@ -62,14 +64,14 @@ fn plan_given(held: &Binding, text: Bytes) -> Result<Change, VarErr>
 }
 
 /// How a binding gets a value after its own.
-pub(crate) fn plan_append(alloc: Global, held: &Binding, value: Value) -> Result<Change, VarErr>
+pub(crate) fn plan_append(held: &Binding, value: Value) -> Result<Change, VarErr>
     ensures { Plans result (rewritten (appended value) held.now) held.now }
 {
     if held.attr.readonly {
         return Err(VarErr::Readonly);
     }
     match value {
-        Value::Text(text) => plan_append_text(alloc, held, text),
+        Value::Text(text) => plan_append_text(held, text),
         Value::Array(more) => plan_append_array(held, more),
     }
 }
@@ -118,32 +120,48 @@ fn plan_text(held: &Binding, index: u64, text: Bytes) -> Result<Change, VarErr>
     requires { index < 2 ^ 63 }
     ensures { Plans result (rebound (with_element (Some index) text held.now.value) held.now) held.now }
 {
-    if text.len() <= 1_048_576 {
+    if text.len() <= TEXT_LIMIT {
         Ok(Change::Element(index, text))
     } else {
         Err(VarErr::ValueSize)
     }
 }
 
-// A text behind a text or behind element 0.
-fn plan_append_text(alloc: Global, held: &Binding, text: Bytes) -> Result<Change, VarErr>
+// A text after a text or after element 0.
+fn plan_append_text(held: &Binding, text: Bytes) -> Result<Change, VarErr>
     ensures { Plans result (rebound (appended (of.Text text) held.now.value) held.now) held.now }
 {
     match &held.value {
         None => plan_value(held, Value::Text(text)),
-        Some(Value::Text(first)) => {
-            let joined = join_texts(alloc, first.as_slice(), text.as_slice())?;
-            plan_value(held, Value::Text(joined))
-        }
-        Some(Value::Array(elements)) => {
-            let first = first_text(elements);
-            let joined = join_texts(alloc, first, text.as_slice())?;
-            plan_text(held, 0, joined)
-        }
+        Some(Value::Text(first)) => plan_more(held, first, text),
+        Some(Value::Array(elements)) => plan_first(held, elements, text),
     }
 }
 
-// Elements behind the greatest index.
+// A text after element 0 of an array; it is element 0 where there was none.
+fn plan_first(held: &Binding, elements: &Elements, text: Bytes) -> Result<Change, VarErr>
+    requires { held.now.value ≡ Some (of.Array elements.now) }
+    ensures { Plans result (rebound (appended (of.Text text) held.now.value) held.now) held.now }
+{
+    match elements.get(0) {
+        Some(first) => plan_more(held, first, text),
+        None => plan_text(held, 0, text),
+    }
+}
+
+// A text after the one that is element 0, where both are short enough together.
+fn plan_more(held: &Binding, first: &Bytes, text: Bytes) -> Result<Change, VarErr>
+    requires { map.get (elements_of held.now.value) 0 ≡ Some first.now }
+    ensures { Plans result (rebound (appended (of.Text text) held.now.value) held.now) held.now }
+{
+    if first.len() <= TEXT_LIMIT && text.len() <= TEXT_LIMIT - first.len() {
+        Ok(Change::Append(text))
+    } else {
+        Err(VarErr::ValueSize)
+    }
+}
+
+// Elements after the greatest index.
 fn plan_append_array(held: &Binding, more: Elements) -> Result<Change, VarErr>
     ensures { Plans result (rebound (appended (of.Array more) held.now.value) held.now) held.now }
 {
@@ -159,23 +177,4 @@ fn plan_append_array(held: &Binding, more: Elements) -> Result<Change, VarErr>
     } else {
         Err(VarErr::ValueSize)
     }
-}
-
-// Element 0, and no bytes where there is none.
-fn first_text(elements: &Elements) -> &[u8]
-    ensures { result.now ≡ unwrap_or (map.get elements.now 0) [] }
-{
-    match elements.get(0) {
-        Some(text) => text.as_slice(),
-        None => b"",
-    }
-}
-
-// One text behind the other.
-fn join_texts(alloc: Global, first: &[u8], second: &[u8]) -> Result<Bytes, Memory>
-    ensures { IfOk result (λ joined. joined ≡ first.now ++ second.now) }
-{
-    let mut joined = Bytes::from_slice(alloc, first)?;
-    joined.extend(second)?;
-    Ok(joined)
 }

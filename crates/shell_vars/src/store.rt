@@ -56,11 +56,6 @@ impl Store {
         })
     }
 
-    /// The allocator that the store keeps.
-    pub(crate) fn allocator(&self) -> Global {
-        self.alloc
-    }
-
     /// How many frames are inside the innermost one that has the name.
     pub(crate) fn holder(&self, name: &[u8]) -> Option<usize>
         ensures value { result ≡ holder_of name.now self.now }
@@ -149,7 +144,8 @@ impl Store {
 
     // The bytes of the store after a change; none where they would be too many.
     fn used_after(&self, depth: usize, name: &[u8], change: &Change) -> Option<u64>
-        requires { depth < length self.now }
+        requires within { depth < length self.now }
+        requires can { CanChange change.now (held_at depth name.now self.now) }
         ensures value { IfSome result (λ used. used ≡ size (bind_at depth name.now (changed change.now (held_at depth name.now self.now)) self.now)) }
         ensures within { IfSome result (λ used. used ≤ 33554432) }
         ensures above { IfNone result (33554432 < size (bind_at depth name.now (changed change.now (held_at depth name.now self.now)) self.now)) }

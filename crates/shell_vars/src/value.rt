@@ -6,7 +6,7 @@ ghost use Rattle.shell_vars.specs.Elements.{next_index as next_index_of};
 ghost use Rattle.shell_vars.specs.Value.{elements_of, value_size, are_short, element_set};
 ghost use Rattle.shell_vars.specs.Value.{element as element_of};
 ghost use Rattle.shell_vars.specs.Stores.{Answers};
-ghost use Rattle.shell_vars.specs.Changes.{size_at};
+ghost use Rattle.shell_vars.specs.Changes.{size_at, text_added};
 ghost use Rattle.shell_vars.specs.declared.value.Value.TheVariants as of;
 
 use crate::elements::Elements;
@@ -199,7 +199,23 @@ pub(crate) fn put_element(
     Ok(())
 }
 
-/// Puts other elements behind the greatest index; a text value becomes element 0 of an array first.
+/// Puts more bytes at the end of a text, or of element 0 of an array, in place.
+///
+/// # Errors
+/// `Memory`; the value is as before then.
+pub(crate) fn append_text(value: &mut Option<Value>, more: &[u8]) -> Result<(), Memory>
+    requires { IsTrue (map.contains_key (elements_of value.old) 0) }
+    ensures ok { OnOk result (value.new ≡ Some (text_added more.now value.old)) }
+    ensures err { OnErr result (value.new ≡ value.old) }
+{
+    match value {
+        Some(Value::Text(text)) => text.extend(more),
+        Some(Value::Array(elements)) => elements.extend(0, more),
+        None => Ok(()),
+    }
+}
+
+/// Puts other elements after the greatest index; a text value becomes element 0 of an array first.
 ///
 /// # Errors
 /// `Memory` where there is no room for them; the value is as before then.
