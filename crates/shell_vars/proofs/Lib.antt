@@ -2,6 +2,7 @@ pub mod Last
 pub mod Ordered
 pub mod Outcomes
 pub mod Indexed
+pub mod Appends
 pub mod Frames
 pub mod Histories
 pub mod Join

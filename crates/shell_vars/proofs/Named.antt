@@ -1,13 +1,17 @@
 -- The names of a frame, seen of a tree by names.
-use Rattle.std.proofs.Common.{◌≡◌, List, Some, None, sym, ap, ◌∙◌, nat_cmp}
+use Rattle.std.proofs.Common.{◌≡◌, List, Some, None, Result, sym, ap, ◌∙◌, nat_cmp}
 use Rattle.std.specs.Cmp.Lexicographic.{slice_cmp, nat_list_cmp_total}
 use Rattle.std.specs.List.Sorted.{IsStrictlySortedBy}
 use Rattle.std.specs.Map.{keys_of, lookup, remove_entry, set_value}
 use Rattle.std.specs.BTreeMap.{is_at, insert_entry}
 use Rattle.std.specs.FinMap as map
+use Rattle.std.specs.Prelude.{OnOk, OnErr, unwrap_or}
+use Rattle.std.proofs.lemmas.Map.Steps.{set_value_same}
+use Rattle.std.proofs.lemmas.Result.{on_ok_weaker, on_err_weaker}
+use Rattle.eb_bytes.specs.declared.bytes.Memory.{Memory}
 use Rattle.eb_bytes.specs.Text.{Text}
 use Rattle.shell_vars.specs.declared.binding.Binding.{Binding}
-use Rattle.shell_vars.specs.Store.{Names}
+use Rattle.shell_vars.specs.Store.{Names, unset_here}
 use Rattle.shell_vars.proofs.Keyed.{keyed, keyed-lookup, keyed-set, keyed-remove, keyed-insert, keyed-sorted}
 use Rattle.shell_vars.proofs.NameOrder.{apart}
 use Rattle.shell_vars.proofs.Ordered.{get-ordered, insert-ordered, set-ordered, remove-ordered, entries-ordered}
@@ -37,3 +41,11 @@ module _ {K : Type 0} (f : K → Text) (es : List (K × Binding)) (m : Names) (s
     written q v w found e =
         ap (λ x. map.from_entries {R = slice_cmp nat_cmp} (keyed f x)) e ∙ ap (map.from_entries {R = slice_cmp nat_cmp}) (keyed-set f (is_at (slice_cmp nat_cmp q)) es w)
         ∙ set-ordered nat_list_cmp_total apart (keyed f es) q v w (sym (keyed-lookup f (is_at (slice_cmp nat_cmp q)) es) ∙ sym found) ∙ ap (λ n. map.insert n q w) seen
+
+    -- the binding that was found was changed in place, or there was no memory for that
+    module _ (q : Text) (r : Result (Unit {0}) Memory) (b w : Binding) (found : Some b ≡ lookup (is_at (λ k. slice_cmp nat_cmp q (f k))) es) (e : new ≡ set_value (is_at (λ k. slice_cmp nat_cmp q (f k))) es w) where
+      pub changed_at : (change : Binding → Binding) → OnOk r (w ≡ change b) → OnOk r (map.from_entries (keyed f new) ≡ map.insert m q (change (unwrap_or (map.get m q) unset_here)))
+      changed_at change h = on_ok_weaker r (λ is. written q b w found e ∙ ap (λ x. map.insert m q x) (is ∙ ap (λ o. change (unwrap_or o unset_here)) (found ∙ binding_of q))) h
+
+      pub not_changed : OnErr r (w ≡ b) → OnErr r (map.from_entries (keyed f new) ≡ m)
+      not_changed h = on_err_weaker r (λ is. ap (λ x. map.from_entries {R = slice_cmp nat_cmp} (keyed f x)) (e ∙ ap (set_value (is_at (λ k. slice_cmp nat_cmp q (f k))) es) is ∙ set_value_same (is_at (λ k. slice_cmp nat_cmp q (f k))) es b (sym found)) ∙ seen) h

@@ -1,4 +1,4 @@
-ghost use Rattle.std.specs.Prelude.{◌≡◌, ◌-◌, ◌^◌, min, length, sum_by, unwrap_or, IfOk, OnOk, OnErr};
+ghost use Rattle.std.specs.Prelude.{◌≡◌, ◌-◌, ◌^◌, min, length, sum_by, unwrap_or, IsSome, IfOk, OnOk, OnErr};
 ghost use Rattle.std.specs.Option.{option_copied};
 ghost use Rattle.std.specs.Ordering.{nat_cmp};
 ghost use Rattle.std.specs.Cmp.Lexicographic.{slice_cmp};
@@ -62,13 +62,26 @@ impl Names {
         ensures ok { OnOk result (self.new ≡ map.insert self.old name.now (changed change (unwrap_or (map.get self.old name.now) unset_here))) }
         ensures err { OnErr result (self.new ≡ self.old) }
     {
-        let alloc = self.alloc;
-        if let Some(binding) = self.tree.get_mut(name) {
-            return binding.change(alloc, change);
+        if self.get(name).is_some() {
+            return self.change_bound(name, change);
         }
         let mut binding = Binding::unset_here();
-        binding.change(alloc, change)?;
+        binding.change(self.alloc, change)?;
         self.insert(name, binding)
+    }
+
+    // Makes a change of the binding that a name has, in place.
+    fn change_bound(&mut self, name: &[u8], change: Change) -> Result<(), Memory>
+        requires bound { IsSome (map.get self.old name.now) }
+        requires can { CanChange change (unwrap_or (map.get self.old name.now) unset_here) }
+        ensures ok { OnOk result (self.new ≡ map.insert self.old name.now (changed change (unwrap_or (map.get self.old name.now) unset_here))) }
+        ensures err { OnErr result (self.new ≡ self.old) }
+    {
+        let alloc = self.alloc;
+        match self.tree.get_mut(name) {
+            Some(binding) => binding.change(alloc, change),
+            None => Ok(()),
+        }
     }
 
     // Gives a name this binding.
@@ -76,8 +89,8 @@ impl Names {
         ensures ok { OnOk result (self.new ≡ map.insert self.old name.now binding) }
         ensures err { OnErr result (self.new ≡ self.old) }
     {
-        let name = Vec::from_slice(self.alloc, name)?;
-        match self.tree.insert(name, binding) {
+        let key = Vec::from_slice(self.alloc, name)?;
+        match self.tree.insert(key, binding) {
             Ok(_) => Ok(()),
             Err(_) => Err(Memory),
         }

@@ -1,6 +1,6 @@
-ghost use Rattle.std.specs.Prelude.{◌≡◌, ◌^◌, ◌<◌, IfOk, IfErr, IfSome, OnOk, Some};
+ghost use Rattle.std.specs.Prelude.{◌≡◌, ◌^◌, ◌<◌, ◌++◌, IfOk, IfErr, IfSome, OnOk, Some};
 ghost use Rattle.std.specs.FinMap as map;
-ghost use Rattle.shell_vars.specs.Value.{elements_of, checked, with_element, element_set, text_given, assigned, appended};
+ghost use Rattle.shell_vars.specs.Value.{elements_of, checked, with_element, element_set, text_given, assigned, appended, is_short};
 ghost use Rattle.shell_vars.specs.Calls.{rebound, rewritten, lessened};
 ghost use Rattle.shell_vars.specs.Store.{unset_here};
 ghost use Rattle.shell_vars.specs.Stores.{Refuses};
@@ -154,11 +154,18 @@ fn plan_more(held: &Binding, first: &Bytes, text: Bytes) -> Result<Change, VarEr
     requires { map.get (elements_of held.now.value) 0 ≡ Some first.now }
     ensures { Plans result (rebound (appended (of.Text text) held.now.value) held.now) held.now }
 {
-    if first.len() <= TEXT_LIMIT && text.len() <= TEXT_LIMIT - first.len() {
+    if is_short_after(first, &text) {
         Ok(Change::Append(text))
     } else {
         Err(VarErr::ValueSize)
     }
+}
+
+// Whether two texts together are short enough.
+fn is_short_after(first: &Bytes, text: &Bytes) -> bool
+    ensures { result ≡ is_short (first.now ++ text.now) }
+{
+    first.len().saturating_add(text.len()) <= TEXT_LIMIT
 }
 
 // Elements after the greatest index.
