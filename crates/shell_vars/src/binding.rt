@@ -4,7 +4,9 @@ ghost use Rattle.shell_vars.specs.Changes.{changed, lost as loses, CanChange};
 
 use crate::attr::Attr;
 use crate::change::Change;
-use crate::value::{Value, append_text, element_size, join_elements, put_element, size_of, take_element};
+use crate::value::{
+    Value, append_text, element_size, join_elements, put_element, size_of, take_element,
+};
 use eb_bytes::Memory;
 use std::alloc::Global;
 

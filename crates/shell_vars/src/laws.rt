@@ -7,5 +7,4 @@ ghost use Rattle.shell_vars.specs.Stores.{Stores};
 /// is refused, also one that is out of memory, changes nothing.
 pub fn calls_give_the_frames()
     ensures { (calls : List Call) (old new : Stores) → HaveBeenMade calls old new → new ≡ after_all calls old }
-{
-}
+{}

@@ -80,7 +80,10 @@ impl Names {
         let alloc = self.alloc;
         match self.tree.get_mut(name) {
             Some(binding) => binding.change(alloc, change),
-            None => Ok(()),
+            None => {
+                drop(change);
+                Ok(())
+            }
         }
     }
 

@@ -7,5 +7,5 @@ use Rattle.shell_vars.proofs.plan.plan_append_text.Goals as goal
 
 pub plan_more-requires : goal.plan_more-requires
 plan_more-requires c =
-    let text : c.args.held.now.value ≡ Some (of.Text c.in-Some-Text.first.now) = search rules in
-    ap (λ v. map.get (elements_of v) 0) text ∙ sym (get-single-same c.in-Some-Text.first.now 0 refl)
+    let text : c.args.held.now.value ≡ Some (of.Text c.in-Some-Text.first) = search rules in
+    ap (λ v. map.get (elements_of v) 0) text ∙ sym (get-single-same c.in-Some-Text.first 0 refl)

@@ -17,22 +17,22 @@ change-requires c =
 pub returns-clause-ok : goal.returns-clause-ok
 returns-clause-ok c = elim c.match-get_mut.branch [
   | in-Some w ↦
-    changed_at vec_items c.self.inside.tree.entries c.args.self.now c.self.view_is c.match-get_mut.self-inside.tree.entries c.args.name.now c.match-get_mut.result w.in-Some.binding.now w.change.new.self w.in-Some.ensures.value
-    (ap (λ (s : Inside). s.tree.entries) w.self-inside-is ∙ (c.get_mut.follows.holds w.change.new.self).0)
-    (changed c.args.change)
-    (subst (λ r. OnOk r (w.change.new.self ≡ changed c.args.change w.in-Some.binding.now)) (sym w.result-is) w.change.ensures.ok)
+      changed_at vec_items c.self.inside.tree.entries c.args.self.now c.self.view_is c.match-get_mut.self-inside.tree.entries c.args.name.now c.match-get_mut.result w.in-Some.binding.now w.change.new.self w.in-Some.ensures.value
+      (ap (λ (s : Inside). s.tree.entries) w.self-inside-is ∙ (c.get_mut.follows.holds w.change.new.self).0)
+      (changed c.args.change)
+      (subst (λ r. OnOk r (w.change.new.self ≡ changed c.args.change w.in-Some.binding.now)) (sym w.result-is) w.change.ensures.ok)
   | in-None w ↦
-    let none : None ≡ map.get c.args.self.now c.args.name.now = w.in-None.ensures.value ∙ binding_of vec_items c.self.inside.tree.entries c.args.self.now c.self.view_is c.args.name.now in
-    absurd (cc (c.requires.bound, ap (is_some {T = Binding}) none))
+      let none : None ≡ map.get c.args.self.now c.args.name.now = w.in-None.ensures.value ∙ binding_of vec_items c.self.inside.tree.entries c.args.self.now c.self.view_is c.args.name.now in
+      absurd (cc (c.requires.bound, ap (is_some {T = Binding}) none))
 ]
 
 pub returns-clause-err : goal.returns-clause-err
 returns-clause-err c = elim c.match-get_mut.branch [
   | in-Some w ↦
-    not_changed vec_items c.self.inside.tree.entries c.args.self.now c.self.view_is c.match-get_mut.self-inside.tree.entries c.args.name.now c.match-get_mut.result w.in-Some.binding.now w.change.new.self w.in-Some.ensures.value
-    (ap (λ (s : Inside). s.tree.entries) w.self-inside-is ∙ (c.get_mut.follows.holds w.change.new.self).0)
-    (subst (λ r. OnErr r (w.change.new.self ≡ w.in-Some.binding.now)) (sym w.result-is) w.change.ensures.err)
+      not_changed vec_items c.self.inside.tree.entries c.args.self.now c.self.view_is c.match-get_mut.self-inside.tree.entries c.args.name.now c.match-get_mut.result w.in-Some.binding.now w.change.new.self w.in-Some.ensures.value
+      (ap (λ (s : Inside). s.tree.entries) w.self-inside-is ∙ (c.get_mut.follows.holds w.change.new.self).0)
+      (subst (λ r. OnErr r (w.change.new.self ≡ w.in-Some.binding.now)) (sym w.result-is) w.change.ensures.err)
   | in-None w ↦
-    let none : None ≡ map.get c.args.self.now c.args.name.now = w.in-None.ensures.value ∙ binding_of vec_items c.self.inside.tree.entries c.args.self.now c.self.view_is c.args.name.now in
-    absurd (cc (c.requires.bound, ap (is_some {T = Binding}) none))
+      let none : None ≡ map.get c.args.self.now c.args.name.now = w.in-None.ensures.value ∙ binding_of vec_items c.self.inside.tree.entries c.args.self.now c.self.view_is c.args.name.now in
+      absurd (cc (c.requires.bound, ap (is_some {T = Binding}) none))
 ]
