@@ -1,6 +1,7 @@
 pub mod Behind
 pub mod Outcomes
 pub mod Frames
+pub mod Histories
 pub mod Join
 pub mod NameOrder
 pub mod Single

@@ -36,7 +36,7 @@ abbrev pub put_from : ℕ → List Text → Elements → Elements
 put_from at [] es = es
 put_from at (t ∷ ts) es = put_from (at + 1) ts (map.insert es at t)
 
--- the elements of another array behind the greatest index, in the order of their indices
+-- the elements of another array after the greatest index, in the order of their indices
 abbrev pub joined : Elements → Elements → Elements
 joined es more = put_from (next_index es) (map.values more) es
 

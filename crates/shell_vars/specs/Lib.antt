@@ -1,6 +1,7 @@
 pub mod Calls
 pub mod Changes
 pub mod Elements
+pub mod Histories
 pub mod Numbered
 pub mod Refused
 pub mod Sorted

@@ -176,12 +176,7 @@ impl Store {
     }
 
     /// Gives a text to a name, or to an element of it, where an assignment goes.
-    pub(crate) fn assign(
-        &mut self,
-        name: &[u8],
-        at: Option<i64>,
-        text: Bytes,
-    ) -> Result<(), VarErr>
+    pub(crate) fn assign(&mut self, name: &[u8], at: Option<i64>, text: Bytes) -> Result<(), VarErr>
         ensures ok { OnOk result (call.assign name.now at text self.old ≡ Ok self.new) }
         ensures refused { IfErr result (λ e. Refuses e (call.assign name.now at text self.old)) }
         ensures unchanged { OnErr result (self.new ≡ self.old) }

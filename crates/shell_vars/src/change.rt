@@ -13,7 +13,7 @@ pub(crate) enum Change {
     Set(Value),
     /// Its array has this text at the index.
     Element(u64, Bytes),
-    /// Its array has these elements behind the greatest index.
+    /// Its array has these elements after the greatest index.
     Join(Elements),
     /// Its array has no element at the index.
     Without(u64),

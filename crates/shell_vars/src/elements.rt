@@ -94,7 +94,7 @@ impl Elements {
     /// Puts a text at an index.
     ///
     /// # Errors
-    /// `Memory` where there is no room for it; the elements are as before then.
+    /// `Memory`; the elements are as before then.
     pub fn insert(&mut self, at: u64, text: Bytes) -> Result<(), Memory>
         requires { at < 2 ^ 63 }
         ensures ok { OnOk result (self.new ≡ map.insert self.old at text) }
@@ -121,10 +121,10 @@ impl Elements {
         }
     }
 
-    /// Puts the texts of other elements behind the greatest index, in the order of theirs.
+    /// Puts the texts of other elements after the greatest index, in the order of theirs.
     ///
     /// # Errors
-    /// `Memory` where there is no room for them; the elements are as before then.
+    /// `Memory`; the elements are as before then.
     pub fn join(&mut self, more: Elements) -> Result<(), Memory>
         requires { IsTrue (can_join self.old more) }
         ensures ok { OnOk result (self.new ≡ joined self.old more) }
@@ -140,7 +140,7 @@ impl Elements {
     /// Equal elements.
     ///
     /// # Errors
-    /// `Memory` where there is no room for them.
+    /// `Memory`.
     pub fn copy(&self, alloc: Global) -> Result<Elements, Memory>
         ensures { IfOk result (λ copy. copy ≡ self.now) }
     {

@@ -63,7 +63,7 @@ impl Names {
     /// Makes a change of a name's binding, or of the mark where it has none.
     ///
     /// # Errors
-    /// `Memory` where there is no room for it; the names are as before then.
+    /// `Memory`; the names are as before then.
     pub(crate) fn change(&mut self, name: &[u8], change: Change) -> Result<(), Memory>
         requires { CanChange change (unwrap_or (map.get self.old name.now) unset_here) }
         ensures ok { OnOk result (self.new ≡ map.insert self.old name.now (changed change (unwrap_or (map.get self.old name.now) unset_here))) }
@@ -92,7 +92,7 @@ impl Names {
     /// Equal names.
     ///
     /// # Errors
-    /// `Memory` where there is no room for them.
+    /// `Memory`.
     pub(crate) fn copy(&self) -> Result<Names, Memory>
         ensures { IfOk result (λ copy. copy ≡ self.now) }
     {

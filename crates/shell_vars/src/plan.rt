@@ -11,8 +11,8 @@ use crate::binding::Binding;
 use crate::change::Change;
 use crate::elements::Elements;
 use crate::error::VarErr;
-use crate::value::Value;
-use eb_bytes::{Bytes, Memory};
+use crate::value::{Value, first_text, joined_text};
+use eb_bytes::Bytes;
 use std::alloc::Global;
 
 /// How a binding gets this value.
@@ -125,25 +125,25 @@ fn plan_text(held: &Binding, index: u64, text: Bytes) -> Result<Change, VarErr>
     }
 }
 
-// A text behind a text or behind element 0.
+// A text after a text or after element 0.
 fn plan_append_text(alloc: Global, held: &Binding, text: Bytes) -> Result<Change, VarErr>
     ensures { Plans result (rebound (appended (of.Text text) held.now.value) held.now) held.now }
 {
     match &held.value {
         None => plan_value(held, Value::Text(text)),
         Some(Value::Text(first)) => {
-            let joined = join_texts(alloc, first.as_slice(), text.as_slice())?;
+            let joined = joined_text(alloc, first.as_slice(), text)?;
             plan_value(held, Value::Text(joined))
         }
         Some(Value::Array(elements)) => {
             let first = first_text(elements);
-            let joined = join_texts(alloc, first, text.as_slice())?;
+            let joined = joined_text(alloc, first, text)?;
             plan_text(held, 0, joined)
         }
     }
 }
 
-// Elements behind the greatest index.
+// Elements after the greatest index.
 fn plan_append_array(held: &Binding, more: Elements) -> Result<Change, VarErr>
     ensures { Plans result (rebound (appended (of.Array more) held.now.value) held.now) held.now }
 {
@@ -159,23 +159,4 @@ fn plan_append_array(held: &Binding, more: Elements) -> Result<Change, VarErr>
     } else {
         Err(VarErr::ValueSize)
     }
-}
-
-// Element 0, and no bytes where there is none.
-fn first_text(elements: &Elements) -> &[u8]
-    ensures { result.now ≡ unwrap_or (map.get elements.now 0) [] }
-{
-    match elements.get(0) {
-        Some(text) => text.as_slice(),
-        None => b"",
-    }
-}
-
-// One text behind the other.
-fn join_texts(alloc: Global, first: &[u8], second: &[u8]) -> Result<Bytes, Memory>
-    ensures { IfOk result (λ joined. joined ≡ first.now ++ second.now) }
-{
-    let mut joined = Bytes::from_slice(alloc, first)?;
-    joined.extend(second)?;
-    Ok(joined)
 }
