@@ -5,7 +5,7 @@ use Rattle.shell_vars.specs.declared.error.VarErr.{VarErr}
 use Rattle.shell_vars.specs.declared.error.VarErr.TheVariants.{Readonly, LocalOutside, BadSubscript, ValueSize, TotalSize, Memory}
 use Rattle.shell_vars.specs.Store.{Store, store_code}
 
--- the present store, and behind it one for each open subshell, the innermost first, which its end brings back
+-- the present store, and after it one for each open subshell, the innermost first, which its end brings back
 pub record Stores : Type 0 where
   pub present : Store
   pub saved : List Store

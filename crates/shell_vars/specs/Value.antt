@@ -71,7 +71,7 @@ array_joined es more =
     else Err BadSubscript
 
 -- with a value appended: texts are joined, a text is added to element 0 of an array, and the elements of an array come
--- behind the greatest index; where there was no value, it is this value
+-- after the greatest index; where there was no value, it is this value
 abbrev pub appended : Value → Option Value → Result Value VarErr
 appended v None = checked v
 appended (value.Text u) (Some (value.Text t)) = checked (value.Text (t ++ u))

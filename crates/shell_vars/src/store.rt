@@ -43,7 +43,7 @@ impl Store {
     /// A store with a global frame without names.
     ///
     /// # Errors
-    /// `Memory` where there is no room for the frame.
+    /// `Memory`.
     pub(crate) fn new(alloc: Global) -> Result<Store, Memory>
         ensures { IfOk result (λ store. store ≡ fresh) }
     {
@@ -114,7 +114,7 @@ impl Store {
     /// Makes a change of a name's binding there, or of the mark where it has none.
     ///
     /// # Errors
-    /// `TotalSize` where the store would have too many bytes, `Memory` where there is no room; nothing changes then.
+    /// `TotalSize` where the store would have too many bytes, `Memory`; nothing changes then.
     pub(crate) fn change(&mut self, depth: usize, name: &[u8], change: Change) -> Result<(), VarErr>
         requires within { depth < length self.old }
         requires can { CanChange change (held_at depth name.now self.old) }
@@ -215,7 +215,7 @@ impl Store {
     /// Opens a frame inside all others.
     ///
     /// # Errors
-    /// `Memory` where there is no room for it; the store is as before then.
+    /// `Memory`; the store is as before then.
     pub(crate) fn push_frame(&mut self, kind: FrameKind) -> Result<(), Memory>
         ensures ok { OnOk result (self.new ≡ pushed kind self.old) }
         ensures err { OnErr result (self.new ≡ self.old) }
@@ -237,7 +237,7 @@ impl Store {
     /// An equal store.
     ///
     /// # Errors
-    /// `Memory` where there is no room for it.
+    /// `Memory`.
     pub(crate) fn copy(&self) -> Result<Store, Memory>
         ensures { IfOk result (λ copy. copy ≡ self.now) }
     {
@@ -295,7 +295,7 @@ fn copy_frames(alloc: Global, frames: &VecDeque<Frame>) -> Result<VecDeque<Frame
     Ok(copy)
 }
 
-// A copy of a frame, behind the others.
+// A copy of a frame, after the others.
 fn push_copy(copy: &mut VecDeque<Frame>, frame: &Frame) -> Result<(), Memory>
     ensures { OnOk result (copy.new.items ≡ copy.old.items ++ frame.now ∷ []) }
 {

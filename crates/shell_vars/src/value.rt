@@ -1,9 +1,9 @@
-ghost use Rattle.std.specs.Prelude.{◌≡◌, ◌-◌, ◌^◌, ◌<◌, ◌≤◌, min, IsTrue, Some, IfOk, IfErr, IfSome, OnOk, OnErr};
+ghost use Rattle.std.specs.Prelude.{◌≡◌, ◌-◌, ◌^◌, ◌<◌, ◌≤◌, ◌++◌, [], min, unwrap_or, IsTrue, Some, IfOk, IfErr, IfSome, OnOk, OnErr};
 ghost use Rattle.std.specs.FinMap as map;
 ghost use Rattle.std.specs.Option.{option_copied};
 ghost use Rattle.shell_vars.specs.Elements.{can_join, index_of, joined};
 ghost use Rattle.shell_vars.specs.Elements.{next_index as next_index_of};
-ghost use Rattle.shell_vars.specs.Value.{elements_of, value_size, are_short, element_set};
+ghost use Rattle.shell_vars.specs.Value.{elements_of, value_size, are_short, appended, checked, element_set};
 ghost use Rattle.shell_vars.specs.Value.{element as element_of};
 ghost use Rattle.shell_vars.specs.Stores.{Answers};
 ghost use Rattle.shell_vars.specs.Changes.{size_at, text_added};
@@ -27,7 +27,7 @@ impl Value {
     /// An equal value.
     ///
     /// # Errors
-    /// `Memory` where there is no room for it.
+    /// `Memory`.
     pub fn copy(&self, alloc: Global) -> Result<Value, Memory>
         ensures { IfOk result (λ value. value ≡ self.now) }
     {
@@ -110,6 +110,58 @@ impl Value {
         Ok(Value::Array(elements))
     }
 
+    /// A copy of a value with another appended, as `Vars::append` does it.
+    ///
+    /// # Errors
+    /// `BadSubscript` where an index would pass 9223372036854775807, `ValueSize`, in this order, and `Memory`.
+    pub fn with_appended(alloc: Global, value: Option<&Value>, more: Value) -> Result<Value, VarErr>
+        ensures { Answers result (appended more (option_copied value.entry)) }
+    {
+        match value {
+            None => short(more),
+            Some(value) => value.and(alloc, more),
+        }
+    }
+
+    // A copy of the value with another appended.
+    fn and(&self, alloc: Global, more: Value) -> Result<Value, VarErr>
+        ensures { Answers result (appended more (Some self.now)) }
+    {
+        match more {
+            Value::Text(text) => self.and_text(alloc, text),
+            Value::Array(more) => self.and_array(alloc, more),
+        }
+    }
+
+    // With a text appended.
+    fn and_text(&self, alloc: Global, more: Bytes) -> Result<Value, VarErr>
+        ensures { Answers result (appended (of.Text more) (Some self.now)) }
+    {
+        match self {
+            Value::Text(text) => short(Value::Text(joined_text(alloc, text.as_slice(), more)?)),
+            Value::Array(elements) => {
+                let text = joined_text(alloc, first_text(elements), more)?;
+                Value::with_element(alloc, Some(self), 0, text)
+            }
+        }
+    }
+
+    // With the elements of an array appended.
+    fn and_array(&self, alloc: Global, more: Elements) -> Result<Value, VarErr>
+        ensures { Answers result (appended (of.Array more) (Some self.now)) }
+    {
+        let room = (1u64 << 63) - Value::next_index(Some(self));
+        if more.len() as u64 > room {
+            return Err(VarErr::BadSubscript);
+        }
+        if !more.are_short() {
+            return Err(VarErr::ValueSize);
+        }
+        let mut elements = copy_elements(alloc, Some(self))?;
+        elements.join(more)?;
+        Ok(Value::Array(elements))
+    }
+
     /// Whether the text, or each element by itself, has at most 1,048,576 bytes.
     pub(crate) fn is_short(&self) -> bool
         ensures { result ≡ are_short self.now }
@@ -129,6 +181,36 @@ impl Value {
             Value::Array(elements) => elements.size(),
         }
     }
+}
+
+// A value, where its texts are short enough.
+fn short(value: Value) -> Result<Value, VarErr>
+    ensures { Answers result (checked value) }
+{
+    if value.is_short() {
+        Ok(value)
+    } else {
+        Err(VarErr::ValueSize)
+    }
+}
+
+// Element 0, and no bytes where there is none.
+fn first_text(elements: &Elements) -> &[u8]
+    ensures { result.now ≡ unwrap_or (map.get elements.now 0) [] }
+{
+    match elements.get(0) {
+        Some(text) => text.as_slice(),
+        None => b"",
+    }
+}
+
+// One text after the other.
+fn joined_text(alloc: Global, first: &[u8], second: Bytes) -> Result<Bytes, Memory>
+    ensures { IfOk result (λ joined. joined ≡ first.now ++ second) }
+{
+    let mut joined = Bytes::from_slice(alloc, first)?;
+    joined.extend(second.as_slice())?;
+    Ok(joined)
 }
 
 /// The size of a value, and 0 where there is none.
@@ -161,7 +243,7 @@ fn text_element(text: &Bytes, at: u64) -> Option<&Bytes>
 /// A copy of a value's elements.
 ///
 /// # Errors
-/// `Memory` where there is no room for it.
+/// `Memory`.
 pub(crate) fn copy_elements(alloc: Global, value: Option<&Value>) -> Result<Elements, Memory>
     ensures { IfOk result (λ elements. elements ≡ elements_of (option_copied value.entry)) }
 {
@@ -179,7 +261,7 @@ pub(crate) fn copy_elements(alloc: Global, value: Option<&Value>) -> Result<Elem
 /// Puts a text at an index; a text value becomes element 0 of an array first.
 ///
 /// # Errors
-/// `Memory` where there is no room for it; the value is as before then.
+/// `Memory`; the value is as before then.
 pub(crate) fn put_element(
     alloc: Global,
     value: &mut Option<Value>,
@@ -218,7 +300,7 @@ pub(crate) fn append_text(value: &mut Option<Value>, more: &[u8]) -> Result<(), 
 /// Puts other elements after the greatest index; a text value becomes element 0 of an array first.
 ///
 /// # Errors
-/// `Memory` where there is no room for them; the value is as before then.
+/// `Memory`; the value is as before then.
 pub(crate) fn join_elements(
     alloc: Global,
     value: &mut Option<Value>,

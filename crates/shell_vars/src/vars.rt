@@ -40,7 +40,7 @@ impl Vars {
     /// One global frame without names, and no open subshell.
     ///
     /// # Errors
-    /// `Memory` where there is no room for the frame.
+    /// `Memory`.
     pub fn new(alloc: Global) -> Result<Vars, Memory>
         ensures { IfOk result (λ vars. vars ≡ record { present = call.fresh; saved = [] }) }
     {
@@ -125,7 +125,7 @@ impl Vars {
     }
 
     /// Appends to a name's value where `set` would write: a text to a text, a text to element 0 of an array, or an
-    /// array's elements behind the greatest index; a text becomes element 0 of an array before the latter. Where there
+    /// array's elements after the greatest index; a text becomes element 0 of an array before the latter. Where there
     /// is no value it is `set`.
     ///
     /// # Errors
@@ -266,7 +266,7 @@ impl Vars {
     /// Opens a frame inside all others.
     ///
     /// # Errors
-    /// `Memory` where there is no room for it.
+    /// `Memory`.
     pub fn push_frame(&mut self, kind: FrameKind) -> Result<(), Memory>
         ensures ok { OnOk result (self.new ≡ record self.old { present = call.push_frame kind self.old.present }) }
         ensures err { OnErr result (self.new ≡ self.old) }
@@ -306,7 +306,7 @@ impl Vars {
     /// Opens a subshell: keeps a copy of the store for its end.
     ///
     /// # Errors
-    /// `Memory` where there is no room for it.
+    /// `Memory`.
     pub fn open_sub(&mut self) -> Result<(), Memory>
         ensures ok { OnOk result (self.new ≡ open_sub self.old) }
         ensures err { OnErr result (self.new ≡ self.old) }
