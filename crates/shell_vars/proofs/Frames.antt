@@ -9,12 +9,12 @@ use Rattle.std.proofs.lemmas.List.{nil_from_length}
 use Rattle.std.proofs.lemmas.List.Sums.{sum_by-cons}
 use Rattle.eb_bytes.specs.Text.{Text}
 use Rattle.shell_vars.specs.declared.binding.Binding.{Binding}
-use Rattle.shell_vars.specs.Store.{Names, Frame, Store, binding_at, held_at, with_names, bind_at, unbind_at, names_size, binding_size, size, Counts, Global, unset_here, admitted}
+use Rattle.shell_vars.specs.Store.{Names, Frame, Store, binding_at, held_at, with_names, bind_at, unbind_at, names_size, binding_size, size, Counts, Global, unset_here, kinds, admitted}
 use Rattle.shell_vars.specs.Value.{value_size}
 use Rattle.shell_vars.specs.declared.error.VarErr.TheVariants.{TotalSize}
 use Rattle.std.proofs.lemmas.Bool.Decides.{nat_tests}
 use Rattle.shell_vars.specs.Calls.{fresh, push_frame, kind_opened}
-use Rattle.shell_vars.specs.Changes.{changed, lost, gained, new_name}
+use Rattle.shell_vars.specs.Changes.{changed, lost, gained, new_name, CanChange}
 use Rattle.shell_vars.specs.declared.change.Change.{Change}
 use Rattle.shell_vars.specs.declared.kind.FrameKind.{FrameKind}
 use Rattle.shell_vars.proofs.Sizes.{size-changed, lost-le}
@@ -40,6 +40,12 @@ pub length-with_names : (change : Names → Names) (i : ℕ) (s : Store) → len
 length-with_names change i [] = refl
 length-with_names change zero (f ∷ fs) = refl
 length-with_names change (suc i) (f ∷ fs) = ap suc (length-with_names change i fs)
+
+-- the kinds of the frames stay
+pub kinds-with_names : (change : Names → Names) (i : ℕ) (s : Store) → kinds (with_names change i s) ≡ kinds s
+kinds-with_names change i [] = refl
+kinds-with_names change zero (f ∷ fs) = refl
+kinds-with_names change (suc i) (f ∷ fs) = ap (λ t. f.kind ∷ t) (kinds-with_names change i fs)
 
 -- the size of a name's binding, where it has one
 abbrev pub bound_size : Text → Option Binding → ℕ
@@ -83,12 +89,12 @@ counts-pushed s new used kind c e = subst (λ x. Counts x used) (sym e) (record 
 })
 
 -- what a change does to the size of a store
-pub size-change : (c : Change) (i : ℕ) (name : Text) (s : Store) → i < length s → size (bind_at i name (changed c (held_at i name s)) s) + lost c (held_at i name s) ≡ size s + (gained c + new_name i name s)
-size-change c i name s h = by_binding (binding_at i name s) (size-bind_at i name (changed c (held_at i name s)) s h)
+pub size-change : (c : Change) (i : ℕ) (name : Text) (s : Store) → i < length s → CanChange c (held_at i name s) → size (bind_at i name (changed c (held_at i name s)) s) + lost c (held_at i name s) ≡ size s + (gained c + new_name i name s)
+size-change c i name s h can = by_binding (binding_at i name s) can (size-bind_at i name (changed c (held_at i name s)) s h)
   where
-    by_binding : (o : Option Binding) → size (bind_at i name (changed c (unwrap_or o unset_here)) s) + bound_size name o ≡ size s + binding_size (name, changed c (unwrap_or o unset_here)) → size (bind_at i name (changed c (unwrap_or o unset_here)) s) + lost c (unwrap_or o unset_here) ≡ size s + (gained c + (if is_some o then 0 else length name))
-    by_binding None e = omega (arith, size-changed c unset_here)
-    by_binding (Some b) e = omega (arith, size-changed c b)
+    by_binding : (o : Option Binding) → CanChange c (unwrap_or o unset_here) → size (bind_at i name (changed c (unwrap_or o unset_here)) s) + bound_size name o ≡ size s + binding_size (name, changed c (unwrap_or o unset_here)) → size (bind_at i name (changed c (unwrap_or o unset_here)) s) + lost c (unwrap_or o unset_here) ≡ size s + (gained c + (if is_some o then 0 else length name))
+    by_binding None k e = omega (arith, size-changed c unset_here k)
+    by_binding (Some b) k e = omega (arith, size-changed c b k)
 
 pub lost-le-size : (c : Change) (i : ℕ) (name : Text) (s : Store) → i < length s → lost c (held_at i name s) ≤ size s
 lost-le-size c i name s h = by_binding (binding_at i name s) (size-unbind_at i name s h)

@@ -1,17 +1,37 @@
--- Elements that come behind the greatest index.
-use Rattle.std.proofs.Common.{◌≡◌, ℕ, ◌+◌, ◌<◌, ◌≤◌, T, List, [], ◌∷◌, ◌++◌, length, refl, sym, ap, subst, ◌∙◌, arith, Less, Equal, Greater, nat_cmp, append_assoc, append-nil, take, drop, set, get_or}
-use Rattle.std.specs.Prelude.{IsTrue, nat_lt, map as map_list}
-use Rattle.std.specs.Cmp.{nat_cmp_total, ranked}
+-- Elements that come after the greatest index.
+use Rattle.std.proofs.Common.{◌≡◌, ℕ, ◌+◌, ◌<◌, ◌≤◌, Bool, true, false, cond, T, List, [], ◌∷◌, ◌++◌, Some, None, refl, sym, ap, subst, ◌∙◌, arith, Less, Equal, Greater, nat_cmp, append_assoc, append-nil}
+use Rattle.std.specs.Prelude.{nat_le, nat_lt, ◌&&◌, map as map_list}
+use Rattle.std.specs.Cmp.{nat_cmp_total, ranked, tied_itself}
 use Rattle.std.specs.FinMap as map
-use Rattle.std.specs.FinMap.{put, is_sorted, same_entries_map, entries-insert, entries-from_sorted, entries_sorted}
+use Rattle.std.specs.FinMap.{find, put, is_sorted, same_map, nat_cmp-IsAntisymmetric, get-insert, get-remove, get-entries, entries-insert, entries_sorted}
 use Rattle.std.specs.FinMap.Entries.{by_order, below_all}
-use Rattle.std.specs.Ordering.{is_lt}
+use Rattle.std.specs.Ordering.{is_eq, is_lt, eq_by_cmp}
 use Rattle.std.proofs.lemmas.Bool.Decides.{nat_tests}
-use Rattle.std.proofs.lemmas.List.{drop_more, take_more_set, drop-set-lt, drop_all, take_all}
 use Rattle.eb_bytes.specs.Text.{Text}
-use Rattle.shell_vars.specs.Elements.{Elements, index_behind, next_index, put_from, joined, have_indices}
-use Rattle.shell_vars.specs.Numbered.{numbered}
-use Rattle.shell_vars.proofs.Sorted.{told, tells, entries-seen, and_left, and_right, is_less_from, and_true, and_first, and_second}
+use Rattle.shell_vars.specs.Elements.{Elements, index_after, next_index, put_from}
+use Rattle.shell_vars.proofs.Sorted.{and_left, and_right, is_less_from}
+
+-- the same texts with the indices from this one on
+abbrev pub numbered : ℕ → List (ℕ × Text) → List (ℕ × Text)
+numbered at [] = []
+numbered at (e ∷ es) = (at, e.1) ∷ numbered (at + 1) es
+
+-- by the test of two indices
+same_from : (q at : ℕ) → eq_by_cmp nat_cmp q at ≡ true → q ≡ at
+same_from q at e = elim (nat_cmp q at) as (λ r. nat_cmp q at ≡ r → is_eq r ≡ true → q ≡ at) [
+  | Less ↦ λ p k. cc
+  | Equal ↦ λ p k. ranked q at Equal (sym p)
+  | Greater ↦ λ p k. cc
+] refl e
+
+other_from : (q at : ℕ) → eq_by_cmp nat_cmp q at ≡ false → ¬ (q ≡ at)
+other_from q at e = λ same. absurd (cc (e, ap is_eq (tied_itself nat_cmp_total q)))
+
+apart_from : (q at : ℕ) → ¬ (q ≡ at) → eq_by_cmp nat_cmp q at ≡ false
+apart_from q at n = elim (eq_by_cmp nat_cmp q at) as (λ b. eq_by_cmp nat_cmp q at ≡ b → b ≡ false) [
+  | true ↦ λ p. absurd (n (same_from q at p))
+  | false ↦ λ p. refl
+] refl
 
 -- each index is below a number
 abbrev pub AllUnder : ℕ → List (ℕ × Text) → Type 0
@@ -41,20 +61,8 @@ entries-put_from (f ∷ fs) at m u =
     entries-put_from fs (at + 1) (map.insert m at f.1) (subst (AllUnder (at + 1)) (sym here) (under_append (at + 1) (map.entries m) ((at, f.1) ∷ []) (under_more at (at + 1) _ (omega arith) u) (omega arith, tt)))
     ∙ ap (λ es. es ++ numbered (at + 1) fs) here ∙ append_assoc (map.entries m) ((at, f.1) ∷ []) (numbered (at + 1) fs)
 
--- one entry more has its number
-pub renumber_step : (es : List (ℕ × Text)) (i at : ℕ) (d : ℕ × Text) (all : List (ℕ × Text)) → i < length es → all ≡ take i es ++ numbered at (drop i es) → all ≡ take (i + 1) (set es i (at, (get_or es i d).1)) ++ numbered (at + 1) (drop (i + 1) (set es i (at, (get_or es i d).1)))
-renumber_step es i at d all h e =
-    let y : ℕ × Text = (at, (get_or es i d).1) in
-    e ∙ ap (λ r. take i es ++ numbered at r) (drop_more es i d h)
-    ∙ sym (append_assoc (take i es) (y ∷ []) (numbered (at + 1) (drop (i + 1) es)))
-    ∙ ap (λ l. l ++ numbered (at + 1) (drop (i + 1) es)) (sym (take_more_set es i y h))
-    ∙ ap (λ r. take (i + 1) (set es i y) ++ numbered (at + 1) r) (sym (drop-set-lt (i + 1) es i y (omega arith)))
-
-pub renumbered : (es : List (ℕ × Text)) (i at : ℕ) (all : List (ℕ × Text)) → length es ≤ i → all ≡ take i es ++ numbered at (drop i es) → es ≡ all
-renumbered es i at all h e = sym (e ∙ ap (λ r. take i es ++ numbered at r) (drop_all i es h) ∙ append-nil (take i es) ∙ take_all i es h)
-
 -- the indices of elements in their order are below the one behind the last
-pub under_last : (es : List (ℕ × Text)) → T (is_sorted nat_cmp es) → AllUnder (index_behind es) es
+pub under_last : (es : List (ℕ × Text)) → T (is_sorted nat_cmp es) → AllUnder (index_after es) es
 under_last [] s = tt
 under_last (e ∷ []) s = (omega arith, tt)
 under_last (e ∷ f ∷ es) s =
@@ -62,44 +70,46 @@ under_last (e ∷ f ∷ es) s =
     let l : e.0 < f.0 = ranked e.0 f.0 Less (sym (is_less_from _ (and_left (is_lt (nat_cmp e.0 f.0)) _ (and_left (below_all nat_cmp e.0 (f ∷ es)) _ s)))) in
     (omega (arith, l, rest.0), rest)
 
-have_numbered : (es : List (ℕ × Text)) (at : ℕ) → at + length es ≤ 9223372036854775808 → IsTrue (have_indices (numbered at es))
-have_numbered [] at h = refl
-have_numbered (e ∷ es) at h =
-    let here : IsTrue (nat_lt at 9223372036854775808) = grind (arith, nat_tests) in
-    and_true _ _ here (have_numbered es (at + 1) (omega arith))
+-- there is no element from the one after the last on
+find_above : (es : List (ℕ × Text)) (at q : ℕ) → AllUnder at es → at ≤ q → find nat_cmp q es ≡ None
+find_above [] at q u h = refl
+find_above (e ∷ es) at q u h = elim (nat_cmp q e.0) as (λ r. nat_cmp q e.0 ≡ r → cond (is_eq r) (Some e.1) (find nat_cmp q es) ≡ None) [
+  | Less ↦ λ p. find_above es at q u.1 h
+  | Equal ↦ λ p. let l : q ≡ e.0 = ranked q e.0 Equal (sym p) in absurd (omega (arith, u.0))
+  | Greater ↦ λ p. find_above es at q u.1 h
+] refl
 
-have_append : (es fs : List (ℕ × Text)) → IsTrue (have_indices es) → IsTrue (have_indices fs) → IsTrue (have_indices (es ++ fs))
-have_append [] fs h k = k
-have_append (e ∷ es) fs h k = and_true _ _ (and_first (nat_lt e.0 9223372036854775808) _ h) (have_append es fs (and_second (nat_lt e.0 9223372036854775808) _ h) k)
+pub get_above : (m : Elements) (q : ℕ) → next_index m ≤ q → map.get m q ≡ None
+get_above m q h = get-entries m q ∙ find_above (map.entries m) (next_index m) q (under_last (map.entries m) (entries_sorted m)) h
 
--- elements seen of their entries, and others put behind them
-module _ (es fs : List (ℕ × Text)) (m n : Elements) (sorted : IsTrue (is_sorted nat_cmp es)) (seen : map.from_sorted es ≡ m) (is : fs ≡ map.entries n) where
-  entries_after : es ++ numbered (next_index m) fs ≡ map.entries (joined m n)
-  entries_after =
-      let same : es ≡ map.entries m = entries-seen es m sorted seen in
-      ap (λ x. es ++ numbered (next_index m) x) is
-      ∙ ap (λ x. x ++ numbered (next_index m) (map.entries n)) same
-      ∙ sym (entries-put_from (map.entries n) (next_index m) m (under_last (map.entries m) (entries_sorted m)))
+-- the indices from a first one up to and without another
+abbrev pub is_between : ℕ → ℕ → ℕ → Bool
+is_between start end q = nat_le start q && nat_lt q end
 
-  pub joined_is_sorted : (new : List (ℕ × Text)) → new ≡ es ++ numbered (next_index m) fs → IsTrue (is_sorted nat_cmp new)
-  joined_is_sorted new e = ap (is_sorted nat_cmp) (e ∙ entries_after) ∙ tells _ (entries_sorted (joined m n))
+-- one more element at the end of a range: outside of it all is as before
+pub outside_more : (m n : Elements) (start at : ℕ) (t : Text) → start ≤ at → ((q : ℕ) → is_between start at q ≡ false → map.get n q ≡ map.get m q) → (q : ℕ) → is_between start (at + 1) q ≡ false → map.get (map.insert n at t) q ≡ map.get m q
+outside_more m n start at t h same q e =
+    let other : eq_by_cmp nat_cmp q at ≡ false = apart_from q at (λ same. grind (arith, nat_tests)) in
+    get-insert nat_cmp_total n at t q ∙ ap (λ b. cond b (Some t) (map.get n q)) other ∙ same q (grind (arith, nat_tests))
 
-  pub joined_is_seen : (new : List (ℕ × Text)) → new ≡ es ++ numbered (next_index m) fs → map.from_sorted new ≡ joined m n
-  joined_is_seen new e = same_entries_map _ _ (entries-from_sorted nat_cmp new (told _ (joined_is_sorted new e)) ∙ e ∙ entries_after)
+-- the elements that were put after the last are gone again
+pub taken_back : (m n new : Elements) (start at : ℕ) → next_index m ≤ start → ((q : ℕ) → is_between start at q ≡ false → map.get n q ≡ map.get m q) → ((q : ℕ) → map.get new q ≡ cond (is_between start at q) None (map.get n q)) → new ≡ m
+taken_back m n new start at above same gone = same_map nat_cmp_total nat_cmp-IsAntisymmetric _ _ (λ q. gone q ∙ by_place q (is_between start at q) refl)
+  where
+    by_place : (q : ℕ) (b : Bool) → is_between start at q ≡ b → cond b None (map.get n q) ≡ map.get m q
+    by_place q true e = sym (get_above m q (grind (arith, nat_tests)))
+    by_place q false e = same q e
 
-  pub joined_has_indices : (new : List (ℕ × Text)) → new ≡ es ++ numbered (next_index m) fs → IsTrue (have_indices es) → next_index m + length fs ≤ 9223372036854775808 → IsTrue (have_indices new)
-  joined_has_indices new e h k = ap have_indices e ∙ have_append es _ h (have_numbered fs (next_index m) k)
-
-length-numbered : (at : ℕ) (es : List (ℕ × Text)) → length (numbered at es) ≡ length es
-length-numbered at [] = refl
-length-numbered at (e ∷ es) = omega (arith, length-numbered (at + 1) es)
-
--- entries that were all written over
-pub rewritten : (n at : ℕ) (new old shown : List (ℕ × Text)) → new ≡ numbered at shown → shown ≡ old → length shown ≡ n → take n (new ++ drop (length new) old) ≡ numbered at old
-rewritten n at new old shown e same l =
-    let long : length (numbered at old) ≡ n = omega (arith, length-numbered at old, ap length same) in
-    let whole : new ≡ numbered at old = e ∙ ap (numbered at) same in
-    ap (λ x. take n (x ++ drop (length x) old)) whole
-    ∙ ap (λ x. take n (numbered at old ++ x)) (drop_all (length (numbered at old)) old (omega (arith, length-numbered at old)))
-    ∙ ap (take n) (append-nil (numbered at old))
-    ∙ take_all n (numbered at old) (omega arith)
+-- one index more is taken out of a range
+pub removed_more : (m n : Elements) (start at : ℕ) → start ≤ at → ((q : ℕ) → map.get n q ≡ cond (is_between start at q) None (map.get m q)) → (q : ℕ) → map.get (map.remove n at) q ≡ cond (is_between start (at + 1) q) None (map.get m q)
+removed_more m n start at h gone q = get-remove nat_cmp_total n at q ∙ by_tie (eq_by_cmp nat_cmp q at) refl
+  where
+    by_tie : (b : Bool) → eq_by_cmp nat_cmp q at ≡ b → cond b None (map.get n q) ≡ cond (is_between start (at + 1) q) None (map.get m q)
+    by_tie true e =
+        let same : q ≡ at = same_from q at e in
+        let inside : is_between start (at + 1) q ≡ true = grind (arith, nat_tests) in
+        ap (λ b. cond b None (map.get m q)) (sym inside)
+    by_tie false e =
+        let other : ¬ (q ≡ at) = other_from q at e in
+        let inside : is_between start at q ≡ is_between start (at + 1) q = grind (arith, nat_tests) in
+        gone q ∙ ap (λ b. cond b None (map.get m q)) inside

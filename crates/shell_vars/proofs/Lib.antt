@@ -1,8 +1,15 @@
-pub mod Behind
+pub mod Last
+pub mod Ordered
 pub mod Outcomes
+pub mod Indexed
+pub mod Appends
 pub mod Frames
+pub mod Histories
 pub mod Join
+pub mod Keyed
 pub mod NameOrder
+pub mod Named
+pub mod Results
 pub mod Single
 pub mod Sizes
 pub mod Sorted

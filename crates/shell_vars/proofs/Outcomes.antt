@@ -16,7 +16,7 @@ use Rattle.shell_vars.specs.Elements.{index_of}
 use Rattle.shell_vars.specs.Value.{elements_of, without_element}
 use Rattle.shell_vars.specs.Store.{Names, Store, Frame, holder, binding_at, held_at, bind_at, unset_here, size, admitted}
 use Rattle.shell_vars.specs.Stores.{Refuses}
-use Rattle.shell_vars.specs.Changes.{changed, gained, new_name}
+use Rattle.shell_vars.specs.Changes.{changed, gained, new_name, CanChange}
 use Rattle.shell_vars.specs.Calls.{lessened, revalued, replaced, unset_elem, unset_elem_in}
 use Rattle.shell_vars.proofs.NameOrder.{apart}
 use Rattle.shell_vars.proofs.Frames.{size-change, admitted_ok}
@@ -43,7 +43,7 @@ pub holder-bound : (name : Text) (s : Store) (i : ℕ) → Some i ≡ holder nam
 holder-bound name [] i e = cc
 holder-bound name (f ∷ fs) i e = bound_here (is_some (map.get f.names name)) name f fs i refl (λ j. holder-bound name fs j) e
 
--- where a store has room no refusal is left but want of memory
+-- where a store has room no refusal is left but that memory is out
 pub only_memory : (s : Store) (e : VarErr) → size s ≤ 33554432 → Refuses e (admitted s) → e ≡ Memory
 only_memory s Readonly h r = cc (admitted_ok s h)
 only_memory s LocalOutside h r = cc (admitted_ok s h)
@@ -53,10 +53,10 @@ only_memory s TotalSize h r = cc (admitted_ok s h)
 only_memory s Memory h r = refl
 
 -- a change that adds nothing to a binding that is there leaves room
-pub size-lessened : (c : Change) (i : ℕ) (name : Text) (s : Store) → i < length s → IsSome (binding_at i name s) → gained c ≡ 0 → size (bind_at i name (changed c (held_at i name s)) s) ≤ size s
-size-lessened c i name s h b g =
+pub size-lessened : (c : Change) (i : ℕ) (name : Text) (s : Store) → i < length s → IsSome (binding_at i name s) → CanChange c (held_at i name s) → gained c ≡ 0 → size (bind_at i name (changed c (held_at i name s)) s) ≤ size s
+size-lessened c i name s h b can g =
     let no_name : new_name i name s ≡ 0 = ap (λ (t : Bool). cond t 0 (length name)) b in
-    omega (arith, size-change c i name s h)
+    omega (arith, size-change c i name s h can)
 
 -- the mark has no element
 pub nowhere : (at : ℤ) (i : ℕ) → Some i ≡ index_of (elements_of None) at → lessened at unset_here ≡ Ok unset_here

@@ -8,7 +8,7 @@ use Rattle.std.specs.Ordering.{eq_by_cmp}
 use Rattle.std.proofs.lemmas.List.{nil_from_length}
 use Rattle.std.proofs.lemmas.Bool.Decides.{nat_tests}
 use Rattle.eb_bytes.specs.Text.{Text}
-use Rattle.shell_vars.specs.Elements.{Elements, index_behind, next_index}
+use Rattle.shell_vars.specs.Elements.{Elements, index_after, next_index}
 
 pub entries-empty : map.entries (map.empty {X = Text} {R = nat_cmp}) ≡ []
 entries-empty = nil_from_length _ (sym (len-entries (map.empty {X = Text} {R = nat_cmp})) ∙ len-empty nat_cmp Text)
@@ -20,10 +20,10 @@ pub entries-single : (t : Text) → map.entries (single t) ≡ (0, t) ∷ []
 entries-single t = entries-insert nat_cmp_total map.empty 0 t ∙ ap (put nat_cmp 0 t) entries-empty
 
 pub next_index-empty : next_index map.empty ≡ 0
-next_index-empty = ap index_behind entries-empty
+next_index-empty = ap index_after entries-empty
 
 pub next_index-single : (t : Text) → next_index (single t) ≡ 1
-next_index-single t = ap index_behind (entries-single t)
+next_index-single t = ap index_after (entries-single t)
 
 pub get-single : (t : Text) (i : ℕ) → map.get (single t) i ≡ cond (eq_by_cmp nat_cmp i 0) (Some t) None
 get-single t i = get-insert nat_cmp_total map.empty 0 t i ∙ ap (cond (eq_by_cmp nat_cmp i 0) (Some t)) (get-empty nat_cmp i)

@@ -10,7 +10,8 @@ use Rattle.shell_vars.specs.declared.kind.FrameKind.{FrameKind}
 use Rattle.shell_vars.specs.declared.kind.FrameKind.TheVariants as opened
 use Rattle.shell_vars.specs.declared.error.VarErr.{VarErr}
 use Rattle.shell_vars.specs.declared.error.VarErr.TheVariants.{Readonly, LocalOutside}
-use Rattle.shell_vars.specs.Value.{checked, element_set, appended, element_unset}
+use Rattle.shell_vars.specs.Value as value
+use Rattle.shell_vars.specs.Value.{checked, element_set, assigned, appended, element_unset}
 use Rattle.shell_vars.specs.Store.{Kind, Global, Call, Prefix, Store, no_attributes, unset_here, holder, call_depth, global_depth, target, binding_at, held_at, seen, bind_at, unbind_at, admitted}
 
 -- one global frame without names
@@ -28,6 +29,14 @@ attr name s = option_map_or (λ b. b.attr) (seen name s) no_attributes
 -- the value in the global frame
 abbrev pub global : Text → Store → Option Value
 global name s = option_and_then (λ b. b.value) (binding_at (global_depth s) name s)
+
+-- the element of that value which a subscript means; without a subscript it is element 0
+abbrev pub element : Text → Option ℤ → Store → Result (Option Text) VarErr
+element name at s = value.element at (get name s)
+
+-- the binding in the innermost Call frame
+abbrev pub local_binding : Text → Store → Option Binding
+local_binding name s = option_and_then (λ i. binding_at i name s) (call_depth s)
 
 -- with this binding of the name in the frame that has so many inside it, where there is one and the store has room
 abbrev pub bound : ℕ → Text → Result Binding VarErr → Store → Result Store VarErr
@@ -54,6 +63,10 @@ set name v s = written (target name s) name (λ old. checked v) s
 -- `set_elem` writes an element there
 abbrev pub set_elem : Text → ℤ → Text → Store → Result Store VarErr
 set_elem name at t s = written (target name s) name (element_set at t) s
+
+-- `assign` gives a text to the name there, or to an element of it
+abbrev pub assign : Text → Option ℤ → Text → Store → Result Store VarErr
+assign name at t s = written (target name s) name (assigned at t) s
 
 -- `append` appends there
 abbrev pub append : Text → Value → Store → Result Store VarErr

@@ -22,21 +22,21 @@ abbrev pub have_indices : List (ℕ × Text) → Bool
 have_indices es = list_all (λ e. is_index e.0) es
 
 -- one more than the last index, and 0 where there is none
-abbrev pub index_behind : List (ℕ × Text) → ℕ
-index_behind [] = 0
-index_behind (e ∷ []) = e.0 + 1
-index_behind (e ∷ f ∷ es) = index_behind (f ∷ es)
+abbrev pub index_after : List (ℕ × Text) → ℕ
+index_after [] = 0
+index_after (e ∷ []) = e.0 + 1
+index_after (e ∷ f ∷ es) = index_after (f ∷ es)
 
 -- one more than the greatest index, and 0 without elements: the indices rise, so the last is the greatest
 abbrev pub next_index : Elements → ℕ
-next_index es = index_behind (map.entries es)
+next_index es = index_after (map.entries es)
 
 -- these texts, one after another from an index on
 abbrev pub put_from : ℕ → List Text → Elements → Elements
 put_from at [] es = es
 put_from at (t ∷ ts) es = put_from (at + 1) ts (map.insert es at t)
 
--- the elements of another array behind the greatest index, in the order of their indices
+-- the elements of another array after the greatest index, in the order of their indices
 abbrev pub joined : Elements → Elements → Elements
 joined es more = put_from (next_index es) (map.values more) es
 

@@ -2,8 +2,7 @@ pub mod Calls
 pub mod Changes
 pub mod Elements
 pub mod Histories
-pub mod Numbered
-pub mod Sorted
+pub mod Refused
 pub mod Store
 pub mod Stores
 pub mod Value

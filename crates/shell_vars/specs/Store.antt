@@ -1,5 +1,5 @@
 -- Stores: lists of frames, the innermost first, the global one last (Bash Reference Manual, "Shell Functions").
-use Rattle.std.specs.Prelude.{◌≡◌, ℕ, zero, suc, ◌+◌, ◌-◌, ◌<◌, ◌≤◌, Bool, true, false, List, [], ◌∷◌, length, nat_le, sum_by, unwrap_or, Option, Some, None, Result, Ok, Err, if◌then◌else◌, refl}
+use Rattle.std.specs.Prelude.{◌≡◌, ℕ, zero, suc, ◌+◌, ◌-◌, ◌<◌, ◌≤◌, Bool, true, false, List, [], ◌∷◌, length, nat_le, sum_by, unwrap_or, Option, Some, None, Result, Ok, Err, if◌then◌else◌, refl, map as map_list}
 use Rattle.std.specs.Option.{option_map, option_and_then}
 use Rattle.std.specs.Ordering.{nat_cmp}
 use Rattle.std.specs.Cmp.Lexicographic.{slice_cmp}
@@ -32,6 +32,10 @@ Store = List Frame
 
 abbrev pub no_attributes : Attr
 no_attributes = record { readonly = false; exported = false }
+
+-- what opened each of the frames
+abbrev pub kinds : Store → List Kind
+kinds s = map_list (λ f. f.kind) s
 
 -- the mark "unset here", without attributes
 abbrev pub unset_here : Binding

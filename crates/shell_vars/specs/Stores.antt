@@ -5,7 +5,7 @@ use Rattle.shell_vars.specs.declared.error.VarErr.{VarErr}
 use Rattle.shell_vars.specs.declared.error.VarErr.TheVariants.{Readonly, LocalOutside, BadSubscript, ValueSize, TotalSize, Memory}
 use Rattle.shell_vars.specs.Store.{Store, store_code}
 
--- the present store, and behind it one for each open subshell, the innermost first, which its end brings back
+-- the present store, and after it one for each open subshell, the innermost first, which its end brings back
 pub record Stores : Type 0 where
   pub present : Store
   pub saved : List Store
@@ -14,7 +14,7 @@ abbrev pub stores_code : Coded Stores
 stores_code =
     code_by (Store × List Store) (coded× store_code (coded_list store_code)) (λ s. (s.present, s.saved)) (λ p. record { present = p.0; saved = p.1 }) (λ _. refl)
 
--- a refusal is the one that is given; want of memory may come at any time
+-- a refusal is the one that is given; out of memory may come at any time
 abbrev pub Refuses : {T : Type 0} → VarErr → Result T VarErr → Type 0
 Refuses Readonly given = given ≡ Err Readonly
 Refuses LocalOutside given = given ≡ Err LocalOutside
@@ -23,15 +23,10 @@ Refuses ValueSize given = given ≡ Err ValueSize
 Refuses TotalSize given = given ≡ Err TotalSize
 Refuses Memory given = Unit {0}
 
--- the answer is not that memory is wanted
-abbrev pub IsNoWant : {T : Type 0} → Result T VarErr → Type 0
-IsNoWant (Ok x) = Unit {0}
-IsNoWant (Err Readonly) = Unit {0}
-IsNoWant (Err LocalOutside) = Unit {0}
-IsNoWant (Err BadSubscript) = Unit {0}
-IsNoWant (Err ValueSize) = Unit {0}
-IsNoWant (Err TotalSize) = Unit {0}
-IsNoWant (Err Memory) = ⊥
+-- an answer is the one that is given, or the call is out of memory
+abbrev pub Answers : {T : Type 0} → Result T VarErr → Result T VarErr → Type 0
+Answers (Ok x) given = given ≡ Ok x
+Answers (Err e) given = Refuses e given
 
 -- with the present store kept for the end of a subshell
 abbrev pub open_sub : Stores → Stores

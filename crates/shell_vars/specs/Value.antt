@@ -1,5 +1,5 @@
 -- Values, and what assignments make of them (Bash Reference Manual, "Shell Parameters" and "Arrays").
-use Rattle.std.specs.Prelude.{ℕ, ℤ, ◌+◌, Bool, [], ◌++◌, length, nat_le, unwrap_or, Option, Some, None, Result, Ok, Err, if◌then◌else◌}
+use Rattle.std.specs.Prelude.{ℕ, ℤ, pos, ◌+◌, Bool, [], ◌++◌, length, nat_le, unwrap_or, Option, Some, None, Result, Ok, Err, if◌then◌else◌}
 use Rattle.std.specs.List.{list_all}
 use Rattle.std.specs.FinMap as map
 use Rattle.eb_bytes.specs.Text.{Text}
@@ -43,7 +43,27 @@ with_element (Some i) t old = if is_short t then Ok (value.Array (map.insert (el
 abbrev pub element_set : ℤ → Text → Option Value → Result Value VarErr
 element_set at t old = with_element (index_of (elements_of old) at) t old
 
--- with these elements behind the greatest index
+-- the element at an index, if there is one
+abbrev pub element_in : Option ℕ → Option Value → Result (Option Text) VarErr
+element_in None v = Err BadSubscript
+element_in (Some i) v = Ok (map.get (elements_of v) i)
+
+-- the element that a subscript means, if there is one; without a subscript it is element 0
+abbrev pub element : Option ℤ → Option Value → Result (Option Text) VarErr
+element at v = element_in (index_of (elements_of v) (unwrap_or at (pos 0))) v
+
+-- a text given to a name: it is the element 0 of an array, and else the value
+abbrev pub text_given : Text → Option Value → Result Value VarErr
+text_given t None = checked (value.Text t)
+text_given t (Some (value.Text old)) = checked (value.Text t)
+text_given t (Some (value.Array es)) = with_element (Some 0) t (Some (value.Array es))
+
+-- a text given to a name, or to the element that a subscript means
+abbrev pub assigned : Option ℤ → Text → Option Value → Result Value VarErr
+assigned None t old = text_given t old
+assigned (Some at) t old = element_set at t old
+
+-- with these elements after the greatest index
 abbrev pub array_joined : Elements → Elements → Result Value VarErr
 array_joined es more =
     if can_join es more
@@ -51,7 +71,7 @@ array_joined es more =
     else Err BadSubscript
 
 -- with a value appended: texts are joined, a text is added to element 0 of an array, and the elements of an array come
--- behind the greatest index; where there was no value, it is this value
+-- after the greatest index; where there was no value, it is this value
 abbrev pub appended : Value → Option Value → Result Value VarErr
 appended v None = checked v
 appended (value.Text u) (Some (value.Text t)) = checked (value.Text (t ++ u))

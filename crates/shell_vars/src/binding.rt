@@ -4,15 +4,19 @@ ghost use Rattle.shell_vars.specs.Changes.{changed, lost as loses, CanChange};
 
 use crate::attr::Attr;
 use crate::change::Change;
-use crate::value::{Value, element_size, join_elements, put_element, size_of, take_element};
+use crate::value::{
+    Value, append_text, element_size, join_elements, put_element, size_of, take_element,
+};
 use eb_bytes::Memory;
 use std::alloc::Global;
 
 /// What a frame says of a name: its value, or without one the mark "unset here", and its attributes.
 #[derive(Drop)]
-pub(crate) struct Binding {
-    pub(crate) value: Option<Value>,
-    pub(crate) attr: Attr,
+pub struct Binding {
+    /// The value; none where the name is marked "unset here".
+    pub value: Option<Value>,
+    /// The attributes.
+    pub attr: Attr,
 }
 
 impl Binding {
@@ -52,6 +56,7 @@ impl Binding {
                 Ok(())
             }
             Change::Element(at, text) => put_element(alloc, &mut self.value, at, text),
+            Change::Append(text) => append_text(&mut self.value, text.as_slice()),
             Change::Join(more) => join_elements(alloc, &mut self.value, more),
             Change::Without(at) => {
                 take_element(alloc, &mut self.value, at);
@@ -75,6 +80,7 @@ impl Binding {
         match change {
             Change::Set(_) => size_of(&self.value),
             Change::Element(at, _) => element_size(&self.value, *at),
+            Change::Append(_) => 0,
             Change::Join(_) => 0,
             Change::Without(at) => element_size(&self.value, *at),
             Change::Mark(_) => 0,

@@ -1,7 +1,7 @@
 ghost use Rattle.std.specs.Prelude.{◌≡◌, ◌<◌, length, is_some, IsSome, IfOk, IfErr, OnOk, OnErr};
 ghost use Rattle.std.specs.Option.{option_copied, option_and_then};
-ghost use Rattle.shell_vars.specs.Value.{checked, element_set, appended};
-ghost use Rattle.shell_vars.specs.Store.{held_at, binding_at, bind_at, unset_here};
+ghost use Rattle.shell_vars.specs.Value.{checked, element_set, assigned, appended};
+ghost use Rattle.shell_vars.specs.Store.{held_at, binding_at, bind_at, unset_here, kinds};
 ghost use Rattle.shell_vars.specs.Stores.{Refuses};
 ghost use Rattle.shell_vars.specs.Changes.{Plans, PlansSome, CanChange, changed, gained};
 ghost use Rattle.shell_vars.specs.declared.error.VarErr.TheVariants as refusal;
@@ -12,7 +12,7 @@ use crate::attr::Attr;
 use crate::binding::Binding;
 use crate::change::Change;
 use crate::error::VarErr;
-use crate::plan::{plan_append, plan_element, plan_nowhere, plan_set, plan_without};
+use crate::plan::{plan_append, plan_assign, plan_element, plan_nowhere, plan_set, plan_without};
 use crate::store::Store;
 use crate::value::Value;
 use eb_bytes::Bytes;
@@ -42,13 +42,28 @@ impl Store {
         plan_element(self.held(depth, name, &mark), at, text)
     }
 
-    // How it gets a value behind its own.
+    // How it, or the element that a subscript means, is given this text.
+    fn plan_assign_at(
+        &self,
+        depth: usize,
+        name: &[u8],
+        at: Option<i64>,
+        text: Bytes,
+    ) -> Result<Change, VarErr>
+        requires { depth < length self.now }
+        ensures { Plans result (rewritten (assigned at text) (held_at depth name.now self.now)) (held_at depth name.now self.now) }
+    {
+        let mark = Binding::unset_here();
+        plan_assign(self.held(depth, name, &mark), at, text)
+    }
+
+    // How it gets a value after its own.
     fn plan_append_at(&self, depth: usize, name: &[u8], value: Value) -> Result<Change, VarErr>
         requires { depth < length self.now }
         ensures { Plans result (rewritten (appended value) (held_at depth name.now self.now)) (held_at depth name.now self.now) }
     {
         let mark = Binding::unset_here();
-        plan_append(self.allocator(), self.held(depth, name, &mark), value)
+        plan_append(self.held(depth, name, &mark), value)
     }
 
     // How it loses an element, if it has that.
@@ -96,6 +111,14 @@ impl Store {
         self.value_at(self.global_depth(), name)
     }
 
+    /// The binding in the innermost Call frame.
+    pub(crate) fn local_binding(&self, name: &[u8]) -> Option<&Binding>
+        ensures { option_copied result ≡ call.local_binding name.now self.now }
+    {
+        let depth = self.call_depth()?;
+        self.binding(depth, name)
+    }
+
     // The value in the frame with so many inside it.
     fn value_at(&self, depth: usize, name: &[u8]) -> Option<&Value>
         requires { depth < length self.now }
@@ -134,6 +157,7 @@ impl Store {
         ensures ok { OnOk result (written depth name.now (λ old. checked value) self.old ≡ Ok self.new) }
         ensures refused { IfErr result (λ e. Refuses e (written depth name.now (λ old. checked value) self.old)) }
         ensures unchanged { OnErr result (self.new ≡ self.old) }
+        ensures kinds { kinds self.new ≡ kinds self.old }
     {
         let change = self.plan_set_at(depth, name, value)?;
         self.change(depth, name, change)
@@ -144,9 +168,22 @@ impl Store {
         ensures ok { OnOk result (call.set_elem name.now at text self.old ≡ Ok self.new) }
         ensures refused { IfErr result (λ e. Refuses e (call.set_elem name.now at text self.old)) }
         ensures unchanged { OnErr result (self.new ≡ self.old) }
+        ensures kinds { kinds self.new ≡ kinds self.old }
     {
         let depth = self.target(name);
         let change = self.plan_element_at(depth, name, at, text)?;
+        self.change(depth, name, change)
+    }
+
+    /// Gives a text to a name, or to an element of it, where an assignment goes.
+    pub(crate) fn assign(&mut self, name: &[u8], at: Option<i64>, text: Bytes) -> Result<(), VarErr>
+        ensures ok { OnOk result (call.assign name.now at text self.old ≡ Ok self.new) }
+        ensures refused { IfErr result (λ e. Refuses e (call.assign name.now at text self.old)) }
+        ensures unchanged { OnErr result (self.new ≡ self.old) }
+        ensures kinds { kinds self.new ≡ kinds self.old }
+    {
+        let depth = self.target(name);
+        let change = self.plan_assign_at(depth, name, at, text)?;
         self.change(depth, name, change)
     }
 
@@ -155,6 +192,7 @@ impl Store {
         ensures ok { OnOk result (call.append name.now value self.old ≡ Ok self.new) }
         ensures refused { IfErr result (λ e. Refuses e (call.append name.now value self.old)) }
         ensures unchanged { OnErr result (self.new ≡ self.old) }
+        ensures kinds { kinds self.new ≡ kinds self.old }
     {
         let depth = self.target(name);
         let change = self.plan_append_at(depth, name, value)?;
@@ -166,6 +204,7 @@ impl Store {
         ensures ok { OnOk result (call.local name.now value self.old ≡ Ok self.new) }
         ensures refused { IfErr result (λ e. Refuses e (call.local name.now value self.old)) }
         ensures unchanged { OnErr result (self.new ≡ self.old) }
+        ensures kinds { kinds self.new ≡ kinds self.old }
     {
         let Some(depth) = self.call_depth() else {
             return Err(VarErr::LocalOutside);
@@ -182,6 +221,7 @@ impl Store {
         ensures ok { OnOk result (call.local_at depth name.now value self.old ≡ Ok self.new) }
         ensures refused { IfErr result (λ e. Refuses e (call.local_at depth name.now value self.old)) }
         ensures unchanged { OnErr result (self.new ≡ self.old) }
+        ensures kinds { kinds self.new ≡ kinds self.old }
     {
         match value {
             Some(value) => self.write(depth, name, value),
@@ -195,6 +235,7 @@ impl Store {
         ensures ok { OnOk result (call.local_at depth name.now None self.old ≡ Ok self.new) }
         ensures refused { IfErr result (λ e. Refuses e (call.local_at depth name.now None self.old)) }
         ensures unchanged { OnErr result (self.new ≡ self.old) }
+        ensures kinds { kinds self.new ≡ kinds self.old }
     {
         if self.binding(depth, name).is_some() {
             return Ok(());
@@ -207,6 +248,7 @@ impl Store {
         ensures ok { OnOk result (call.mark name.now attr self.old ≡ Ok self.new) }
         ensures refused { IfErr result (λ e. Refuses e (call.mark name.now attr self.old)) }
         ensures unchanged { OnErr result (self.new ≡ self.old) }
+        ensures kinds { kinds self.new ≡ kinds self.old }
     {
         let depth = self.target(name);
         self.change(depth, name, Change::Mark(attr))
@@ -218,6 +260,7 @@ impl Store {
         ensures answer { IfOk result (λ had. had ≡ is_some (call.get name.now self.old)) }
         ensures refused { IfErr result (λ e. Refuses e (call.unset name.now self.old)) }
         ensures unchanged { OnErr result (self.new ≡ self.old) }
+        ensures kinds { kinds self.new ≡ kinds self.old }
     {
         let had = self.get(name).is_some();
         let Some(depth) = self.holder(name) else {
@@ -237,6 +280,7 @@ impl Store {
         ensures ok { OnOk result (self.new ≡ call.unset_at depth name.now self.old) }
         ensures memory { IfErr result (λ e. e ≡ refusal.Memory) }
         ensures unchanged { OnErr result (self.new ≡ self.old) }
+        ensures kinds { kinds self.new ≡ kinds self.old }
     {
         if self.call_depth() == Some(depth) {
             return self.lessen(depth, name, Change::Unset);
@@ -254,6 +298,7 @@ impl Store {
         ensures ok { OnOk result (self.new ≡ bind_at depth name.now (changed change (held_at depth name.now self.old)) self.old) }
         ensures memory { IfErr result (λ e. e ≡ refusal.Memory) }
         ensures unchanged { OnErr result (self.new ≡ self.old) }
+        ensures kinds { kinds self.new ≡ kinds self.old }
     {
         let _ = self.bytes_used();
         self.change(depth, name, change)
@@ -264,6 +309,7 @@ impl Store {
         ensures ok { OnOk result (call.unset_elem name.now at self.old ≡ Ok self.new) }
         ensures refused { IfErr result (λ e. Refuses e (call.unset_elem name.now at self.old)) }
         ensures unchanged { OnErr result (self.new ≡ self.old) }
+        ensures kinds { kinds self.new ≡ kinds self.old }
     {
         let Some(depth) = self.holder(name) else {
             return plan_nowhere(at);
@@ -279,6 +325,7 @@ impl Store {
         ensures ok { OnOk result (call.unset_global name.now self.old ≡ Ok self.new) }
         ensures refused { IfErr result (λ e. Refuses e (call.unset_global name.now self.old)) }
         ensures unchanged { OnErr result (self.new ≡ self.old) }
+        ensures kinds { kinds self.new ≡ kinds self.old }
     {
         let depth = self.global_depth();
         if self.is_readonly(depth, name) {

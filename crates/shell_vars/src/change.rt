@@ -13,7 +13,9 @@ pub(crate) enum Change {
     Set(Value),
     /// Its array has this text at the index.
     Element(u64, Bytes),
-    /// Its array has these elements behind the greatest index.
+    /// Its text, or element 0 of its array, has these bytes at the end.
+    Append(Bytes),
+    /// Its array has these elements after the greatest index.
     Join(Elements),
     /// Its array has no element at the index.
     Without(u64),
@@ -31,6 +33,7 @@ impl Change {
         match self {
             Change::Set(value) => value.size(),
             Change::Element(_, text) => (text.len() as u64).saturating_add(16),
+            Change::Append(text) => text.len() as u64,
             Change::Join(more) => more.size(),
             Change::Without(_) => 0,
             Change::Mark(_) => 0,

@@ -1,24 +1,22 @@
-ghost use Rattle.std.specs.Prelude.{◌≡◌, ◌↔◌, ◌+◌, ◌≤◌, ◌<◌, ◌^◌, ◌++◌, ◌-◌, IsTrue, IfOk, OnOk, OnErr, length, min, sum_by, Option, Result};
+ghost use Rattle.std.specs.Prelude.{◌≡◌, ◌↔◌, ◌+◌, ◌≤◌, ◌<◌, ◌^◌, ◌++◌, ◌-◌, ◌&&◌, [], IsTrue, IfOk, OnOk, OnErr, cond, length, min, ℕ, nat_le, nat_lt, sum_by, unwrap_or, Option, Result};
 ghost use Rattle.std.specs.List.{list_all};
 ghost use Rattle.std.specs.Option.{option_copied};
 ghost use Rattle.std.specs.Ordering.{nat_cmp};
 ghost use Rattle.std.specs.FinMap as map;
 ghost use Rattle.shell_vars.specs.Elements.{have_indices, next_index, joined, can_join, element_size, elements_size};
-ghost use Rattle.std.specs.List.Sorted.{IsSearchInRange};
-ghost use Rattle.shell_vars.specs.Sorted.{place};
-ghost use Rattle.shell_vars.specs.Numbered.{numbered};
 ghost use Rattle.shell_vars.specs.Value.{is_short};
 
 use eb_bytes::{Bytes, Memory};
 use std::alloc::Global;
-use std::cmp::Ordering;
+use std::collections::BTreeMap;
+use std::collections::btree_map::Iter;
 use std::marker::Model;
 
 /// The elements of an indexed array: texts by their indices, each of which is at most 9223372036854775807. Contracts
 /// see them as a finite map from index to text.
 #[derive(Drop)]
 pub struct Elements {
-    entries: Vec<(u64, Bytes)>,
+    tree: BTreeMap<u64, Bytes>,
 }
 
 impl Model for Elements {
@@ -31,9 +29,9 @@ impl Model for Elements {
 
     ghost coded = { elements_code };
 
-    ghost view = { λ e. map.from_sorted e.entries.items };
+    ghost view = { λ e. map.from_entries e.tree.entries };
 
-    ghost invariant = { λ e. IsTrue (map.is_sorted nat_cmp e.entries.items) × IsTrue (have_indices e.entries.items) };
+    ghost invariant = { λ e. IsTrue (have_indices e.tree.entries) };
 }
 
 impl Elements {
@@ -42,41 +40,37 @@ impl Elements {
         ensures { result ≡ map.empty }
     {
         Elements {
-            entries: Vec::new(alloc),
+            tree: BTreeMap::new(alloc),
         }
     }
 
     /// The indices and their texts, in the order of the indices.
-    pub fn as_slice(&self) -> &[(u64, Bytes)]
-        ensures entries { result.now ≡ map.entries self.now }
-        ensures rising { IsTrue (map.is_sorted nat_cmp result.now) }
-        ensures indices { IsTrue (have_indices result.now) }
+    pub fn iter(&self) -> Iter<'_, u64, Bytes>
+        ensures entries { result ≡ map.entries self.now }
+        ensures indices { IsTrue (have_indices result) }
     {
-        self.entries.as_slice()
+        self.tree.iter()
     }
 
     /// How many elements there are.
     pub fn len(&self) -> usize
         ensures { result ≡ map.len self.now }
     {
-        self.as_slice().len()
+        self.tree.len()
     }
 
     /// Whether there are none.
     pub fn is_empty(&self) -> bool
         ensures { IsTrue result ↔ (map.len self.now ≡ 0) }
     {
-        self.as_slice().is_empty()
+        self.len() == 0
     }
 
     /// The text at an index.
     pub fn get(&self, at: u64) -> Option<&Bytes>
         ensures { option_copied result ≡ map.get self.now at }
     {
-        match search(self.entries.as_slice(), at) {
-            Ok(place) => Some(&self.entries[place].1),
-            Err(_) => None,
-        }
+        self.tree.get(&at)
     }
 
     /// One more than the greatest index, and 0 without elements.
@@ -84,9 +78,9 @@ impl Elements {
         ensures value { result ≡ next_index self.now }
         ensures within { result ≤ 2 ^ 63 }
     {
-        let _ = &self.entries;
-        match self.as_slice().last() {
-            Some(entry) => entry.0 + 1,
+        let _ = self.tree.len();
+        match self.tree.last_key_value() {
+            Some((at, _)) => *at + 1,
             None => 0,
         }
     }
@@ -94,21 +88,30 @@ impl Elements {
     /// Puts a text at an index.
     ///
     /// # Errors
-    /// `Memory` where there is no room for it; the elements are as before then.
+    /// `Memory`; the elements are as before then.
     pub fn insert(&mut self, at: u64, text: Bytes) -> Result<(), Memory>
         requires { at < 2 ^ 63 }
         ensures ok { OnOk result (self.new ≡ map.insert self.old at text) }
         ensures err { OnErr result (self.new ≡ self.old) }
     {
-        match search(self.entries.as_slice(), at) {
-            Ok(place) => {
-                self.entries[place].1 = text;
-                Ok(())
-            }
-            Err(place) => {
-                self.entries.insert(place, (at, text))?;
-                Ok(())
-            }
+        match self.tree.insert(at, text) {
+            Ok(_) => Ok(()),
+            Err(_) => Err(Memory),
+        }
+    }
+
+    /// Puts more bytes at the end of the text at an index, in place.
+    ///
+    /// # Errors
+    /// `Memory`; the elements are as before then.
+    pub(crate) fn extend(&mut self, at: u64, more: &[u8]) -> Result<(), Memory>
+        requires { IsTrue (map.contains_key self.old at) }
+        ensures ok { OnOk result (self.new ≡ map.insert self.old at (unwrap_or (map.get self.old at) [] ++ more.now)) }
+        ensures err { OnErr result (self.new ≡ self.old) }
+    {
+        match self.tree.get_mut(&at) {
+            Some(text) => text.extend(more),
+            None => Ok(()),
         }
     }
 
@@ -116,106 +119,76 @@ impl Elements {
     pub fn remove(&mut self, at: u64)
         ensures { self.new ≡ map.remove self.old at }
     {
-        if let Ok(place) = search(self.entries.as_slice(), at) {
-            self.entries.remove(place);
-        }
+        drop(self.tree.remove(&at));
     }
 
-    /// Puts the texts of other elements behind the greatest index, in the order of theirs.
+    /// Puts the texts of other elements after the greatest index, in the order of theirs.
     ///
     /// # Errors
-    /// `Memory` where there is no room for them; the elements are as before then.
+    /// `Memory`; the elements are as before then.
     pub fn join(&mut self, more: Elements) -> Result<(), Memory>
         requires { IsTrue (can_join self.old more) }
         ensures ok { OnOk result (self.new ≡ joined self.old more) }
         ensures err { OnErr result (self.new ≡ self.old) }
     {
         let start = self.next_index();
-        let Elements { mut entries } = more;
-        renumber(&mut entries, start);
-        self.entries.append(&mut entries)?;
+        let mut at = start;
+        let Elements { tree } = more;
+        let _ = tree.len();
+        for text in tree.into_values() {
+            if self.insert(at, text).is_err() {
+                self.remove_between(start, at);
+                return Err(Memory);
+            }
+            at += 1;
+        }
         Ok(())
+    }
+
+    // Takes the texts away whose indices are from `start` up to and without `end`.
+    fn remove_between(&mut self, start: u64, end: u64)
+        requires { start ≤ end }
+        ensures { (q : ℕ) → map.get self.new q ≡ cond (nat_le start q && nat_lt q end) None (map.get self.old q) }
+    {
+        for at in start..end {
+            self.remove(at);
+        }
     }
 
     /// Equal elements.
     ///
     /// # Errors
-    /// `Memory` where there is no room for them.
+    /// `Memory`.
     pub fn copy(&self, alloc: Global) -> Result<Elements, Memory>
         ensures { IfOk result (λ copy. copy ≡ self.now) }
     {
-        let entries = copy_entries(alloc, self.entries.as_slice())?;
-        Ok(Elements { entries })
+        let mut copy = Elements::new(alloc);
+        for (at, text) in self.iter() {
+            copy.insert(*at, text.copy(alloc)?)?;
+        }
+        Ok(copy)
     }
 
     /// For each element its length and 16, together; 18446744073709551615 where that is more.
     pub fn size(&self) -> u64
         ensures { result ≡ min (elements_size self.now) (2 ^ 64 - 1) }
     {
-        entries_size(self.as_slice())
+        let mut total = 0u64;
+        for (_, text) in self.iter() {
+            total = total.saturating_add(text.len() as u64).saturating_add(16);
+        }
+        total
     }
 
     /// Whether each text has at most 1,048,576 bytes.
     pub fn are_short(&self) -> bool
         ensures { result ≡ list_all (λ e. is_short e.1) (map.entries self.now) }
     {
-        are_texts_short(self.as_slice())
-    }
-}
-
-// Gives the entries the indices from `start` on, in their order.
-fn renumber(entries: &mut [(u64, Bytes)], start: u64)
-    requires { start + length entries.old ≤ 2 ^ 63 }
-    ensures { entries.new ≡ numbered start entries.old }
-{
-    let mut at = start;
-    for entry in entries.iter_mut() {
-        entry.0 = at;
-        at += 1;
-    }
-}
-
-// The sizes of the elements together, as far as the number goes.
-fn entries_size(entries: &[(u64, Bytes)]) -> u64
-    ensures { result ≡ min (sum_by element_size entries.now) (2 ^ 64 - 1) }
-{
-    let mut total = 0u64;
-    for (_, text) in entries {
-        total = total.saturating_add(text.len() as u64).saturating_add(16);
-    }
-    total
-}
-
-// Whether each text has at most 1,048,576 bytes.
-fn are_texts_short(entries: &[(u64, Bytes)]) -> bool
-    ensures { result ≡ list_all (λ e. is_short e.1) entries.now }
-{
-    entries.iter().all(|entry| entry.1.len() <= 1_048_576)
-}
-
-// A copy of the entries, in their order.
-fn copy_entries(alloc: Global, entries: &[(u64, Bytes)]) -> Result<Vec<(u64, Bytes)>, Memory>
-    ensures { IfOk result (λ copy. copy.items ≡ entries.now) }
-{
-    let mut copy = Vec::with_capacity(alloc, entries.len())?;
-    for (at, text) in entries {
-        let text = Bytes::from_slice(alloc, text.as_slice())?;
-        copy.push((*at, text))?;
-    }
-    Ok(copy)
-}
-
-// Where the index is, or where it would go.
-fn search(entries: &[(u64, Bytes)], at: u64) -> Result<usize, usize>
-    ensures value { result ≡ place nat_cmp at entries.now }
-    ensures within { IsSearchInRange result (length entries.now) }
-{
-    for (index, entry) in entries.iter().enumerate() {
-        match at.cmp(&entry.0) {
-            Ordering::Less => return Err(index),
-            Ordering::Equal => return Ok(index),
-            Ordering::Greater => {}
+        for (_, text) in self.iter() {
+            if text.len() > 1_048_576 {
+                return false;
+            }
         }
+        true
     }
-    Err(entries.len())
 }

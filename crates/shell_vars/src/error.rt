@@ -16,7 +16,7 @@ pub enum VarErr {
     ValueSize,
     /// All bindings together would have more than 33,554,432 bytes.
     TotalSize,
-    /// There was no room.
+    /// Memory ran out.
     Memory,
 }
 

@@ -1,7 +1,6 @@
-ghost use Rattle.std.specs.Prelude.{◌≡◌, ◌^◌, ◌<◌, ◌++◌, [], unwrap_or, IfOk, IfErr, IfSome, OnOk, Some};
+ghost use Rattle.std.specs.Prelude.{◌≡◌, ◌^◌, ◌<◌, ◌++◌, IfOk, IfErr, IfSome, OnOk, Some};
 ghost use Rattle.std.specs.FinMap as map;
-ghost use Rattle.shell_vars.specs.Elements.{index_of};
-ghost use Rattle.shell_vars.specs.Value.{elements_of, checked, with_element, element_set, appended};
+ghost use Rattle.shell_vars.specs.Value.{elements_of, checked, with_element, element_set, text_given, assigned, appended, is_short};
 ghost use Rattle.shell_vars.specs.Calls.{rebound, rewritten, lessened};
 ghost use Rattle.shell_vars.specs.Store.{unset_here};
 ghost use Rattle.shell_vars.specs.Stores.{Refuses};
@@ -12,9 +11,11 @@ use crate::binding::Binding;
 use crate::change::Change;
 use crate::elements::Elements;
 use crate::error::VarErr;
-use crate::value::{Value, element, next_index};
-use eb_bytes::{Bytes, Memory};
-use std::alloc::Global;
+use crate::value::Value;
+use eb_bytes::Bytes;
+
+/// Bytes in a text, at most.
+const TEXT_LIMIT: usize = 1_048_576;
 
 /// How a binding gets this value.
 pub(crate) fn plan_set(held: &Binding, value: Value) -> Result<Change, VarErr>
@@ -33,21 +34,44 @@ pub(crate) fn plan_element(held: &Binding, at: i64, text: Bytes) -> Result<Chang
     if held.attr.readonly {
         return Err(VarErr::Readonly);
     }
-    match index(&held.value, at) {
+    match Value::index(held.value.as_ref(), at) {
         Some(index) => plan_text(held, index, text),
         None => Err(VarErr::BadSubscript),
     }
 }
 
-/// How a binding gets a value behind its own.
-pub(crate) fn plan_append(alloc: Global, held: &Binding, value: Value) -> Result<Change, VarErr>
+/// How a binding is given this text, or its element that a subscript means is.
+pub(crate) fn plan_assign(held: &Binding, at: Option<i64>, text: Bytes) -> Result<Change, VarErr>
+    ensures { Plans result (rewritten (assigned at text) held.now) held.now }
+{
+    match at {
+        Some(at) => plan_element(held, at, text),
+        None => plan_given(held, text),
+    }
+}
+
+// How a binding is given this text.
+fn plan_given(held: &Binding, text: Bytes) -> Result<Change, VarErr>
+    ensures { Plans result (rewritten (text_given text) held.now) held.now }
+{
+    if held.attr.readonly {
+        return Err(VarErr::Readonly);
+    }
+    match held.value {
+        Some(Value::Array(_)) => plan_text(held, 0, text),
+        _ => plan_value(held, Value::Text(text)),
+    }
+}
+
+/// How a binding gets a value after its own.
+pub(crate) fn plan_append(held: &Binding, value: Value) -> Result<Change, VarErr>
     ensures { Plans result (rewritten (appended value) held.now) held.now }
 {
     if held.attr.readonly {
         return Err(VarErr::Readonly);
     }
     match value {
-        Value::Text(text) => plan_append_text(alloc, held, text),
+        Value::Text(text) => plan_append_text(held, text),
         Value::Array(more) => plan_append_array(held, more),
     }
 }
@@ -59,10 +83,10 @@ pub(crate) fn plan_without(held: &Binding, at: i64) -> Result<Option<Change>, Va
     if held.attr.readonly {
         return Err(VarErr::Readonly);
     }
-    let Some(index) = index(&held.value, at) else {
+    let Some(index) = Value::index(held.value.as_ref(), at) else {
         return Err(VarErr::BadSubscript);
     };
-    if element(&held.value, index).is_some() {
+    if Value::element(held.value.as_ref(), index).is_some() {
         Ok(Some(Change::Without(index)))
     } else {
         Ok(None)
@@ -74,7 +98,7 @@ pub(crate) fn plan_nowhere(at: i64) -> Result<(), VarErr>
     ensures ok { OnOk result (lessened at unset_here ≡ Ok unset_here) }
     ensures refused { IfErr result (λ e. Refuses e (lessened at unset_here)) }
 {
-    match index(&None, at) {
+    match Value::index(None, at) {
         Some(_) => Ok(()),
         None => Err(VarErr::BadSubscript),
     }
@@ -96,39 +120,62 @@ fn plan_text(held: &Binding, index: u64, text: Bytes) -> Result<Change, VarErr>
     requires { index < 2 ^ 63 }
     ensures { Plans result (rebound (with_element (Some index) text held.now.value) held.now) held.now }
 {
-    if text.len() <= 1_048_576 {
+    if text.len() <= TEXT_LIMIT {
         Ok(Change::Element(index, text))
     } else {
         Err(VarErr::ValueSize)
     }
 }
 
-// A text behind a text or behind element 0.
-fn plan_append_text(alloc: Global, held: &Binding, text: Bytes) -> Result<Change, VarErr>
+// A text after a text or after element 0.
+fn plan_append_text(held: &Binding, text: Bytes) -> Result<Change, VarErr>
     ensures { Plans result (rebound (appended (of.Text text) held.now.value) held.now) held.now }
 {
     match &held.value {
         None => plan_value(held, Value::Text(text)),
-        Some(Value::Text(first)) => {
-            let joined = join_texts(alloc, first.as_slice(), text.as_slice())?;
-            plan_value(held, Value::Text(joined))
-        }
-        Some(Value::Array(elements)) => {
-            let first = first_text(elements);
-            let joined = join_texts(alloc, first, text.as_slice())?;
-            plan_text(held, 0, joined)
-        }
+        Some(Value::Text(first)) => plan_more(held, first, text),
+        Some(Value::Array(elements)) => plan_first(held, elements, text),
     }
 }
 
-// Elements behind the greatest index.
+// A text after element 0 of an array; it is element 0 where there was none.
+fn plan_first(held: &Binding, elements: &Elements, text: Bytes) -> Result<Change, VarErr>
+    requires { held.now.value ≡ Some (of.Array elements.now) }
+    ensures { Plans result (rebound (appended (of.Text text) held.now.value) held.now) held.now }
+{
+    match elements.get(0) {
+        Some(first) => plan_more(held, first, text),
+        None => plan_text(held, 0, text),
+    }
+}
+
+// A text after the one that is element 0, where both are short enough together.
+fn plan_more(held: &Binding, first: &Bytes, text: Bytes) -> Result<Change, VarErr>
+    requires { map.get (elements_of held.now.value) 0 ≡ Some first.now }
+    ensures { Plans result (rebound (appended (of.Text text) held.now.value) held.now) held.now }
+{
+    if is_short_after(first, &text) {
+        Ok(Change::Append(text))
+    } else {
+        Err(VarErr::ValueSize)
+    }
+}
+
+// Whether two texts together are short enough.
+fn is_short_after(first: &Bytes, text: &Bytes) -> bool
+    ensures { result ≡ is_short (first.now ++ text.now) }
+{
+    first.len().saturating_add(text.len()) <= TEXT_LIMIT
+}
+
+// Elements after the greatest index.
 fn plan_append_array(held: &Binding, more: Elements) -> Result<Change, VarErr>
     ensures { Plans result (rebound (appended (of.Array more) held.now.value) held.now) held.now }
 {
     if held.value.is_none() {
         return plan_value(held, Value::Array(more));
     }
-    let room = (1u64 << 63) - next_index(&held.value);
+    let room = (1u64 << 63) - Value::next_index(held.value.as_ref());
     if more.len() as u64 > room {
         return Err(VarErr::BadSubscript);
     }
@@ -136,36 +183,5 @@ fn plan_append_array(held: &Binding, more: Elements) -> Result<Change, VarErr>
         Ok(Change::Join(more))
     } else {
         Err(VarErr::ValueSize)
-    }
-}
-
-// Element 0, and no bytes where there is none.
-fn first_text(elements: &Elements) -> &[u8]
-    ensures { result.now ≡ unwrap_or (map.get elements.now 0) [] }
-{
-    match elements.get(0) {
-        Some(text) => text.as_slice(),
-        None => b"",
-    }
-}
-
-// One text behind the other.
-fn join_texts(alloc: Global, first: &[u8], second: &[u8]) -> Result<Bytes, Memory>
-    ensures { IfOk result (λ joined. joined ≡ first.now ++ second.now) }
-{
-    let mut joined = Bytes::from_slice(alloc, first)?;
-    joined.extend(second)?;
-    Ok(joined)
-}
-
-// The index that a subscript means.
-fn index(value: &Option<Value>, at: i64) -> Option<u64>
-    ensures value { result ≡ index_of (elements_of value.now) at }
-    ensures within { IfSome result (λ index. index < 2 ^ 63) }
-{
-    if at >= 0 {
-        Some(at as u64)
-    } else {
-        next_index(value).checked_sub(at.unsigned_abs())
     }
 }

@@ -1,6 +1,6 @@
 ghost use Rattle.std.specs.Prelude.{◌≡◌, ◌↔◌, ◌+◌, ◌-◌, ◌<◌, ◌≤◌, ◌^◌, [], ◌∷◌, ◌++◌, min, length, sum_by, is_some, IsTrue, IsSome, IfOk, IfErr, IfSome, IfNone, OnOk, OnErr, MatchOption};
 ghost use Rattle.std.specs.Option.{option_copied};
-ghost use Rattle.shell_vars.specs.Store.{holder as holder_of, call_depth as call_depth_of, target as target_of, global_depth, binding_at, held_at, bind_at, unbind_at, unset_here, size, admitted};
+ghost use Rattle.shell_vars.specs.Store.{holder as holder_of, call_depth as call_depth_of, target as target_of, global_depth, binding_at, held_at, bind_at, unbind_at, unset_here, size, kinds, admitted};
 ghost use Rattle.shell_vars.specs.Stores.{Refuses};
 ghost use Rattle.shell_vars.specs.Changes.{changed, CanChange, new_name, lost as loses, gained as gains};
 ghost use Rattle.shell_vars.specs.Calls.{fresh, is_prefix_open as prefix_open, push_frame as pushed, pop_frame as popped};
@@ -43,7 +43,7 @@ impl Store {
     /// A store with a global frame without names.
     ///
     /// # Errors
-    /// `Memory` where there is no room for the frame.
+    /// `Memory`.
     pub(crate) fn new(alloc: Global) -> Result<Store, Memory>
         ensures { IfOk result (λ store. store ≡ fresh) }
     {
@@ -54,11 +54,6 @@ impl Store {
             used: 0,
             alloc,
         })
-    }
-
-    /// The allocator that the store keeps.
-    pub(crate) fn allocator(&self) -> Global {
-        self.alloc
     }
 
     /// How many frames are inside the innermost one that has the name.
@@ -119,11 +114,12 @@ impl Store {
     /// Makes a change of a name's binding there, or of the mark where it has none.
     ///
     /// # Errors
-    /// `TotalSize` where the store would have too many bytes, `Memory` where there is no room; nothing changes then.
+    /// `TotalSize` where the store would have too many bytes, `Memory`; nothing changes then.
     pub(crate) fn change(&mut self, depth: usize, name: &[u8], change: Change) -> Result<(), VarErr>
         requires within { depth < length self.old }
         requires can { CanChange change (held_at depth name.now self.old) }
         ensures ok { OnOk result (admitted (bind_at depth name.now (changed change (held_at depth name.now self.old)) self.old) ≡ Ok self.new) }
+        ensures kinds { kinds self.new ≡ kinds self.old }
         ensures refused { IfErr result (λ e. Refuses e (admitted (bind_at depth name.now (changed change (held_at depth name.now self.old)) self.old))) }
         ensures unchanged { OnErr result (self.new ≡ self.old) }
     {
@@ -138,7 +134,8 @@ impl Store {
     /// Takes the binding of a name away there, if it has one.
     pub(crate) fn unbind(&mut self, depth: usize, name: &[u8])
         requires { depth < length self.old }
-        ensures { self.new ≡ unbind_at depth name.now self.old }
+        ensures means { self.new ≡ unbind_at depth name.now self.old }
+        ensures kinds { kinds self.new ≡ kinds self.old }
     {
         let freed = self.bound_size(depth, name);
         self.frames[depth].remove(name);
@@ -147,7 +144,8 @@ impl Store {
 
     // The bytes of the store after a change; none where they would be too many.
     fn used_after(&self, depth: usize, name: &[u8], change: &Change) -> Option<u64>
-        requires { depth < length self.now }
+        requires within { depth < length self.now }
+        requires can { CanChange change.now (held_at depth name.now self.now) }
         ensures value { IfSome result (λ used. used ≡ size (bind_at depth name.now (changed change.now (held_at depth name.now self.now)) self.now)) }
         ensures within { IfSome result (λ used. used ≤ 33554432) }
         ensures above { IfNone result (33554432 < size (bind_at depth name.now (changed change.now (held_at depth name.now self.now)) self.now)) }
@@ -217,7 +215,7 @@ impl Store {
     /// Opens a frame inside all others.
     ///
     /// # Errors
-    /// `Memory` where there is no room for it; the store is as before then.
+    /// `Memory`; the store is as before then.
     pub(crate) fn push_frame(&mut self, kind: FrameKind) -> Result<(), Memory>
         ensures ok { OnOk result (self.new ≡ pushed kind self.old) }
         ensures err { OnErr result (self.new ≡ self.old) }
@@ -239,7 +237,7 @@ impl Store {
     /// An equal store.
     ///
     /// # Errors
-    /// `Memory` where there is no room for it.
+    /// `Memory`.
     pub(crate) fn copy(&self) -> Result<Store, Memory>
         ensures { IfOk result (λ copy. copy ≡ self.now) }
     {
@@ -297,7 +295,7 @@ fn copy_frames(alloc: Global, frames: &VecDeque<Frame>) -> Result<VecDeque<Frame
     Ok(copy)
 }
 
-// A copy of a frame, behind the others.
+// A copy of a frame, after the others.
 fn push_copy(copy: &mut VecDeque<Frame>, frame: &Frame) -> Result<(), Memory>
     ensures { OnOk result (copy.new.items ≡ copy.old.items ++ frame.now ∷ []) }
 {

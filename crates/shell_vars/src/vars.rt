@@ -1,10 +1,11 @@
 ghost use Rattle.std.specs.Prelude.{◌≡◌, ◌↔◌, ◌<◌, ◌≤◌, ◌∷◌, [], length, is_some, IsTrue, IfOk, IfErr, OnOk, OnErr};
 ghost use Rattle.std.specs.Option.{option_copied};
-ghost use Rattle.shell_vars.specs.Store.{size};
+ghost use Rattle.shell_vars.specs.Store.{kinds, size};
 ghost use Rattle.shell_vars.specs.Stores.{Refuses, open_sub, drop_sub};
 ghost use Rattle.shell_vars.specs.Calls as call;
 
 use crate::attr::Attr;
+use crate::binding::Binding;
 use crate::error::VarErr;
 use crate::kind::FrameKind;
 use crate::store::Store;
@@ -39,7 +40,7 @@ impl Vars {
     /// One global frame without names, and no open subshell.
     ///
     /// # Errors
-    /// `Memory` where there is no room for the frame.
+    /// `Memory`.
     pub fn new(alloc: Global) -> Result<Vars, Memory>
         ensures { IfOk result (λ vars. vars ≡ record { present = call.fresh; saved = [] }) }
     {
@@ -72,6 +73,7 @@ impl Vars {
         ensures refused { IfErr result (λ e. Refuses e (call.set name.now value self.old.present)) }
         ensures unchanged { OnErr result (self.new ≡ self.old) }
         ensures saved { self.new.saved ≡ self.old.saved }
+        ensures kinds { kinds self.new.present ≡ kinds self.old.present }
     {
         let depth = self.present.target(name);
         self.present.write(depth, name, value)
@@ -88,12 +90,42 @@ impl Vars {
         ensures refused { IfErr result (λ e. Refuses e (call.set_elem name.now at text self.old.present)) }
         ensures unchanged { OnErr result (self.new ≡ self.old) }
         ensures saved { self.new.saved ≡ self.old.saved }
+        ensures kinds { kinds self.new.present ≡ kinds self.old.present }
     {
         self.present.set_elem(name, at, text)
     }
 
+    /// The text of the element of a name's value that a subscript means, none where there is no such element; without a
+    /// subscript, of element 0. A text is its own element 0, and a negative subscript has the greatest index plus one
+    /// added.
+    ///
+    /// # Errors
+    /// `BadSubscript` where the subscript is negative still.
+    pub fn element(&self, name: &[u8], at: Option<i64>) -> Result<Option<&Bytes>, VarErr>
+        ensures found { IfOk result (λ text. call.element name.now at self.now.present ≡ Ok (option_copied text)) }
+        ensures refused { IfErr result (λ e. call.element name.now at self.now.present ≡ Err e) }
+    {
+        Value::element_at(self.get(name), at)
+    }
+
+    /// Gives a text to a name where `set` would give it a value, or to the element that a subscript means. Without a
+    /// subscript, a name that holds an array has its element 0 set.
+    ///
+    /// # Errors
+    /// `Readonly`, `BadSubscript` where a subscript is negative still, `ValueSize`, `TotalSize`, in this order, and
+    /// `Memory`.
+    pub fn assign(&mut self, name: &[u8], at: Option<i64>, text: Bytes) -> Result<(), VarErr>
+        ensures ok { OnOk result (call.assign name.now at text self.old.present ≡ Ok self.new.present) }
+        ensures refused { IfErr result (λ e. Refuses e (call.assign name.now at text self.old.present)) }
+        ensures unchanged { OnErr result (self.new ≡ self.old) }
+        ensures saved { self.new.saved ≡ self.old.saved }
+        ensures kinds { kinds self.new.present ≡ kinds self.old.present }
+    {
+        self.present.assign(name, at, text)
+    }
+
     /// Appends to a name's value where `set` would write: a text to a text, a text to element 0 of an array, or an
-    /// array's elements behind the greatest index; a text becomes element 0 of an array before the latter. Where there
+    /// array's elements after the greatest index; a text becomes element 0 of an array before the latter. Where there
     /// is no value it is `set`.
     ///
     /// # Errors
@@ -104,8 +136,16 @@ impl Vars {
         ensures refused { IfErr result (λ e. Refuses e (call.append name.now value self.old.present)) }
         ensures unchanged { OnErr result (self.new ≡ self.old) }
         ensures saved { self.new.saved ≡ self.old.saved }
+        ensures kinds { kinds self.new.present ≡ kinds self.old.present }
     {
         self.present.append(name, value)
+    }
+
+    /// The binding of a name in the innermost Call frame, which `local` would change; none where no call is open.
+    pub fn local_binding(&self, name: &[u8]) -> Option<&Binding>
+        ensures { option_copied result ≡ call.local_binding name.now self.now.present }
+    {
+        self.present.local_binding(name)
     }
 
     /// Binds a name in the innermost Call frame. Without a value it gets the mark there, unless it is bound there
@@ -120,6 +160,7 @@ impl Vars {
         ensures refused { IfErr result (λ e. Refuses e (call.local name.now value self.old.present)) }
         ensures unchanged { OnErr result (self.new ≡ self.old) }
         ensures saved { self.new.saved ≡ self.old.saved }
+        ensures kinds { kinds self.new.present ≡ kinds self.old.present }
     {
         self.present.local(name, value)
     }
@@ -134,6 +175,7 @@ impl Vars {
         ensures refused { IfErr result (λ e. Refuses e (call.bind name.now value self.old.present)) }
         ensures unchanged { OnErr result (self.new ≡ self.old) }
         ensures saved { self.new.saved ≡ self.old.saved }
+        ensures kinds { kinds self.new.present ≡ kinds self.old.present }
     {
         self.present.write(0, name, value)
     }
@@ -148,6 +190,7 @@ impl Vars {
         ensures refused { IfErr result (λ e. Refuses e (call.mark name.now attr self.old.present)) }
         ensures unchanged { OnErr result (self.new ≡ self.old) }
         ensures saved { self.new.saved ≡ self.old.saved }
+        ensures kinds { kinds self.new.present ≡ kinds self.old.present }
     {
         self.present.mark(name, attr)
     }
@@ -163,6 +206,7 @@ impl Vars {
         ensures refused { IfErr result (λ e. Refuses e (call.unset name.now self.old.present)) }
         ensures unchanged { OnErr result (self.new ≡ self.old) }
         ensures saved { self.new.saved ≡ self.old.saved }
+        ensures kinds { kinds self.new.present ≡ kinds self.old.present }
     {
         self.present.unset(name)
     }
@@ -178,6 +222,7 @@ impl Vars {
         ensures refused { IfErr result (λ e. Refuses e (call.unset_elem name.now at self.old.present)) }
         ensures unchanged { OnErr result (self.new ≡ self.old) }
         ensures saved { self.new.saved ≡ self.old.saved }
+        ensures kinds { kinds self.new.present ≡ kinds self.old.present }
     {
         self.present.unset_elem(name, at)
     }
@@ -198,6 +243,7 @@ impl Vars {
         ensures refused { IfErr result (λ e. Refuses e (call.set_global name.now value self.old.present)) }
         ensures unchanged { OnErr result (self.new ≡ self.old) }
         ensures saved { self.new.saved ≡ self.old.saved }
+        ensures kinds { kinds self.new.present ≡ kinds self.old.present }
     {
         let depth = self.present.global_depth();
         self.present.write(depth, name, value)
@@ -212,6 +258,7 @@ impl Vars {
         ensures refused { IfErr result (λ e. Refuses e (call.unset_global name.now self.old.present)) }
         ensures unchanged { OnErr result (self.new ≡ self.old) }
         ensures saved { self.new.saved ≡ self.old.saved }
+        ensures kinds { kinds self.new.present ≡ kinds self.old.present }
     {
         self.present.unset_global(name)
     }
@@ -219,7 +266,7 @@ impl Vars {
     /// Opens a frame inside all others.
     ///
     /// # Errors
-    /// `Memory` where there is no room for it.
+    /// `Memory`.
     pub fn push_frame(&mut self, kind: FrameKind) -> Result<(), Memory>
         ensures ok { OnOk result (self.new ≡ record self.old { present = call.push_frame kind self.old.present }) }
         ensures err { OnErr result (self.new ≡ self.old) }
@@ -259,7 +306,7 @@ impl Vars {
     /// Opens a subshell: keeps a copy of the store for its end.
     ///
     /// # Errors
-    /// `Memory` where there is no room for it.
+    /// `Memory`.
     pub fn open_sub(&mut self) -> Result<(), Memory>
         ensures ok { OnOk result (self.new ≡ open_sub self.old) }
         ensures err { OnErr result (self.new ≡ self.old) }

@@ -1,11 +1,6 @@
-use Rattle.std.specs.Cmp.Lexicographic.{nat_list_cmp_total}
-use Rattle.shell_vars.proofs.NameOrder.{apart}
-use Rattle.std.proofs.Common.{arith}
-use Rattle.shell_vars.proofs.Sorted.{found_value, missing_value}
+use Rattle.std.proofs.Common.{◌∙◌, vec_items}
+use Rattle.shell_vars.proofs.Named.{binding_of}
 use Rattle.shell_vars.proofs.names.Names.get.Goals as goal
 
-pub returns-in-Ok : goal.returns-in-Ok
-returns-in-Ok c = found_value nat_list_cmp_total apart _ _ c.as_slice.ensures.value c.self.invariant c.args.name.now c.in-Ok.place c.index.result.now c.in-Ok.ensures.value (omega (arith, c.in-Ok.ensures.within)) c.index.ensures _ c.self.view_is
-
-pub returns-in-Err : goal.returns-in-Err
-returns-in-Err c = missing_value nat_list_cmp_total apart _ _ c.as_slice.ensures.value c.self.invariant c.args.name.now _ c.in-Err.ensures.value _ c.self.view_is
+pub returns : goal.returns
+returns c = c.get.ensures.value ∙ binding_of vec_items c.self.inside.tree.entries c.args.self.now c.self.view_is c.args.name.now

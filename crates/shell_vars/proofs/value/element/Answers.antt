@@ -1,8 +1,0 @@
-use Rattle.std.proofs.Common.{sym, ap, ◌∙◌, nat_cmp}
-use Rattle.std.specs.FinMap as map
-use Rattle.std.specs.FinMap.{get-empty}
-use Rattle.shell_vars.specs.Value.{elements_of}
-use Rattle.shell_vars.proofs.value.element.Goals as goal
-
-pub returns-in-None : goal.returns-in-None
-returns-in-None c = sym (ap (λ v. map.get (elements_of v) c.args.at) c.in-None.is ∙ get-empty nat_cmp c.args.at)
