@@ -2,7 +2,7 @@
 use Rattle.std.proofs.Common.{◌≡◌, ℕ, suc, ◌+◌, ◌-◌, ◌<◌, ◌≤◌, Bool, true, false, ◌&&◌, List, [], ◌∷◌, ◌++◌, length, take, drop, reverse, Option, Some, None, get_or, slice_index_or, refl, ap, subst, sym, ◌∙◌, ◌⊎◌, inl, inr, arith, length-append, length-drop}
 use Rattle.std.specs.Option.{option_map}
 use Rattle.std.proofs.lemmas.Bool.{cases_lt}
-use Rattle.std.proofs.lemmas.List.{drop-drop, get_or_append_left, get_or_at, length-reverse, length_push, take_at}
+use Rattle.std.proofs.lemmas.List.{drop-drop, get_or_append_left, get_or_at, length-reverse, length_push}
 use Rattle.eb_bytes.specs.Text.{Text}
 use Rattle.bash_patterns.specs.declared.way.Way.TheVariants.{Backward, Forward}
 use Rattle.bash_patterns.specs.declared.way.Goal.TheVariants.{End, Anywhere}
@@ -10,13 +10,13 @@ use Rattle.bash_patterns.specs.Form.{Form}
 use Rattle.bash_patterns.specs.Facing.{facing, facing_form, grown, holds}
 use Rattle.bash_patterns.specs.Kept.{starts}
 use Rattle.bash_patterns.specs.Matching.{matches, some_cut}
-use Rattle.bash_patterns.specs.Places.{IsFirstBegin, IsFirstTrue, IsGreatest, IsLastTrue, IsLeast, IsLeftmost, begins_at, matches_before, matches_from}
+use Rattle.bash_patterns.specs.Places.{IsFirstBegin, IsFirstTrue, IsGreatest, IsLastTrue, IsLeast, begins_at, first_begin, longest_prefix, longest_suffix, matches_before, matches_from, shortest_prefix, shortest_suffix}
 use Rattle.bash_patterns.specs.Turned.{turned}
 use Rattle.bash_patterns.proofs.Cuts.{and-true, some_cut-same}
 use Rattle.bash_patterns.proofs.Faced.{drop-reverse}
 use Rattle.bash_patterns.proofs.Grown.{starts-whole}
 use Rattle.bash_patterns.proofs.Mirrored.{matches-turned}
-use Rattle.bash_patterns.proofs.Parted.{cut_of}
+use Rattle.bash_patterns.proofs.Placed.{the_begin, the_greatest, the_least}
 
 length-grown : (m : Text → Bool) (t : Text) → length (grown m t) ≡ length t + 1
 unfolding grown
@@ -27,7 +27,7 @@ length-grown m (b ∷ t) = length_push (grown m t) (m (b ∷ t)) ∙ ap (λ n. n
     suc-one n = omega arith
 
 -- the value at a place
-get_or-grown : (m : Text → Bool) (t : Text) (j : ℕ) → j ≤ length t → get_or (grown m t) j false ≡ m (drop (length t - j) t)
+pub get_or-grown : (m : Text → Bool) (t : Text) (j : ℕ) → j ≤ length t → get_or (grown m t) j false ≡ m (drop (length t - j) t)
 unfolding grown
 get_or-grown m [] j h = let e : j ≡ 0 = omega arith in rw e refl
 get_or-grown m (b ∷ t) j h = on (cases_lt j (suc (length t))) (get_or-grown m t)
@@ -107,21 +107,21 @@ says_ends p t values shown s e = record {
       ap (λ v. get_or v (length t - i) false) (s ∙ e) ∙ get_or-grown (starts p (holds End)) t (length t - i) (omega arith) ∙ ap (λ n. starts p (holds End) (drop n t)) back ∙ starts-whole p (drop i t);
 }
 
-pub shortest_front : (p : Form) (t : Text) (values shown : List Bool) (place : Option ℕ) → shown ≡ values → values ≡ grown (starts (facing_form Forward p) (holds End)) (facing Forward t) → IsFirstTrue shown (length shown) place → IsLeast (matches_before (matches p) t) (length t) place
-shortest_front p t values shown place s e first = least_from_first shown (matches_before (matches p) t) (length t) place (says_fronts p t values shown s e) first
+pub shortest_front : (p : Form) (t : Text) (values shown : List Bool) (place : Option ℕ) → shown ≡ values → values ≡ grown (starts (facing_form Forward p) (holds End)) (facing Forward t) → IsFirstTrue shown (length shown) place → place ≡ shortest_prefix (matches p) t
+shortest_front p t values shown place s e first =
+    the_least (matches_before (matches p) t) (length t) place (least_from_first shown (matches_before (matches p) t) (length t) place (says_fronts p t values shown s e) first)
 
-pub longest_front : (p : Form) (t : Text) (values shown : List Bool) (place : Option ℕ) → shown ≡ values → values ≡ grown (starts (facing_form Forward p) (holds End)) (facing Forward t) → IsLastTrue shown (length shown) place → IsGreatest (matches_before (matches p) t) (length t) place
-longest_front p t values shown place s e last = greatest_from_last shown (matches_before (matches p) t) (length t) place (says_fronts p t values shown s e) last
+pub longest_front : (p : Form) (t : Text) (values shown : List Bool) (place : Option ℕ) → shown ≡ values → values ≡ grown (starts (facing_form Forward p) (holds End)) (facing Forward t) → IsLastTrue shown (length shown) place → place ≡ longest_prefix (matches p) t
+longest_front p t values shown place s e last =
+    the_greatest (matches_before (matches p) t) (length t) place (greatest_from_last shown (matches_before (matches p) t) (length t) place (says_fronts p t values shown s e) last)
 
-pub shortest_end : (p : Form) (t : Text) (values shown : List Bool) (left place : Option ℕ) → shown ≡ values → values ≡ grown (starts (facing_form Backward p) (holds End)) (facing Backward t) → IsFirstTrue shown (length shown) left → place ≡ option_map (λ n. length t - n) left → IsGreatest (matches_from (matches p) t) (length t) place
+pub shortest_end : (p : Form) (t : Text) (values shown : List Bool) (left place : Option ℕ) → shown ≡ values → values ≡ grown (starts (facing_form Backward p) (holds End)) (facing Backward t) → IsFirstTrue shown (length shown) left → place ≡ option_map (λ n. length t - n) left → place ≡ shortest_suffix (matches p) t
 shortest_end p t values shown left place s e first is =
-    let P : Option ℕ → Type 0 = λ o. IsGreatest (matches_from (matches p) t) (length t) o in
-    subst P (sym is) (greatest_from_first shown (matches_from (matches p) t) (length t) left (says_ends p t values shown s e) first)
+    is ∙ the_greatest (matches_from (matches p) t) (length t) (option_map (λ n. length t - n) left) (greatest_from_first shown (matches_from (matches p) t) (length t) left (says_ends p t values shown s e) first)
 
-pub longest_end : (p : Form) (t : Text) (values shown : List Bool) (left place : Option ℕ) → shown ≡ values → values ≡ grown (starts (facing_form Backward p) (holds End)) (facing Backward t) → IsLastTrue shown (length shown) left → place ≡ option_map (λ n. length t - n) left → IsLeast (matches_from (matches p) t) (length t) place
+pub longest_end : (p : Form) (t : Text) (values shown : List Bool) (left place : Option ℕ) → shown ≡ values → values ≡ grown (starts (facing_form Backward p) (holds End)) (facing Backward t) → IsLastTrue shown (length shown) left → place ≡ option_map (λ n. length t - n) left → place ≡ longest_suffix (matches p) t
 longest_end p t values shown left place s e last is =
-    let P : Option ℕ → Type 0 = λ o. IsLeast (matches_from (matches p) t) (length t) o in
-    subst P (sym is) (least_from_last shown (matches_from (matches p) t) (length t) left (says_ends p t values shown s e) last)
+    is ∙ the_least (matches_from (matches p) t) (length t) (option_map (λ n. length t - n) left) (least_from_last shown (matches_from (matches p) t) (length t) left (says_ends p t values shown s e) last)
 
 -- ---- where a match begins
 
@@ -153,39 +153,6 @@ first_from_last p t from values shown (Some k) h s e last =
     let back : length t - (length t - k) ≡ k = omega arith in
     (omega arith, omega arith, sym (begins-value p t from values shown h s e (length t - k) (omega arith) (omega arith)) ∙ ap (λ n. get_or shown n false) back ∙ last.1, λ i l u. sym (begins-value p t from values shown h s e i l (omega arith)) ∙ last.2 (length t - i) (omega arith) (omega (arith, long)))
 
-pub first_begun : (p : Form) (t : Text) (from : ℕ) (values shown : List Bool) (left place : Option ℕ) → from ≤ length t → shown ≡ values → values ≡ grown (starts (facing_form Backward p) (holds Anywhere)) (facing Backward (drop from t)) → IsLastTrue shown (length shown) left → place ≡ option_map (λ n. length t - n) left → IsFirstBegin (matches p) t from place
+pub first_begun : (p : Form) (t : Text) (from : ℕ) (values shown : List Bool) (left place : Option ℕ) → from ≤ length t → shown ≡ values → values ≡ grown (starts (facing_form Backward p) (holds Anywhere)) (facing Backward (drop from t)) → IsLastTrue shown (length shown) left → place ≡ option_map (λ n. length t - n) left → place ≡ first_begin (matches p) t from
 first_begun p t from values shown left place h s e last is =
-    let P : Option ℕ → Type 0 = λ o. IsFirstBegin (matches p) t from o in
-    subst P (sym is) (first_from_last p t from values shown left h s e last)
-
--- ---- the leftmost match
-
--- a match that begins somewhere ends somewhere
-pub match_ends : (m : Text → Bool) (t : Text) (begin : ℕ) → begins_at m t begin ≡ true → IsGreatest (matches_before m (drop begin t)) (length (drop begin t)) None → ⊥
-match_ends m t begin h none =
-    let cut = cut_of (λ a b. m a) (drop begin t) h in
-    let short : length cut.front ≤ length (drop begin t) = omega (arith, ap length cut.whole, length-append cut.front cut.back) in
-    let front : take (length cut.front) (drop begin t) ≡ cut.front = ap (take (length cut.front)) (sym cut.whole) ∙ take_at cut.front cut.back (length cut.front) refl in
-    let never : true ≡ false = sym cut.passed ∙ ap m (sym front) ∙ none (length cut.front) short in
-    absurd (cc)
-
-pub leftmost : (m : Text → Bool) (t : Text) (from begin size : ℕ) → IsFirstBegin m t from (Some begin) → IsGreatest (matches_before m (drop begin t)) (length (drop begin t)) (Some size) → IsLeftmost m t from (Some (begin, begin + size))
-leftmost m t from begin size first last =
-    let long : length (drop begin t) ≡ length t - begin = length-drop begin t in
-    let back : begin + size - begin ≡ size = omega arith in
-    record {
-      not_before = first.0;
-      in_order = omega arith;
-      in_text = omega (arith, long, first.1, last.0);
-      matched = ap (λ n. m (take n (drop begin t))) back ∙ last.1;
-      first = first.3;
-      longest = λ j h l. last.2 (j - begin) (omega arith) (omega (arith, long));
-    }
-
-pub no_end : (m : Text → Bool) (t rest : Text) (from begin : ℕ) (first last : Option ℕ) → IsFirstBegin m t from first → first ≡ Some begin → rest ≡ drop begin t → IsGreatest (matches_before m rest) (length rest) last → last ≡ None → ⊥
-no_end m t rest from begin first last f fe re l le =
-    let P : Option ℕ → Type 0 = λ o. IsFirstBegin m t from o in
-    let Q : Option ℕ → Type 0 = λ o. IsGreatest (matches_before m rest) (length rest) o in
-    let R : Text → Type 0 = λ u. IsGreatest (matches_before m u) (length u) None in
-    let begun = subst P fe f in
-    match_ends m t begin begun.2 (subst R re (subst Q le l))
+    is ∙ the_begin (matches p) t from (option_map (λ n. length t - n) left) (first_from_last p t from values shown left h s e last)

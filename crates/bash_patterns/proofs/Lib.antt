@@ -9,9 +9,14 @@ pub mod Gathered
 pub mod Grown
 pub mod Joined
 pub mod Later
+pub mod Lone
+pub mod Longest
+pub mod Matched
 pub mod Members
 pub mod Mirrored
 pub mod Parted
+pub mod Placed
 pub mod Readings
 pub mod Sizes
+pub mod Told
 pub mod Walked

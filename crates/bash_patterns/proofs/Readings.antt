@@ -80,7 +80,7 @@ no_end ss = record { shorter = omega arith; is = sym (all ss (length ss - 0) (om
     all (x ∷ xs) zero h = absurd (omega arith)
     all (x ∷ xs) (suc n) h = all xs n (omega arith)
 
-first-end : (g : Groups) (extended : Bool) (s : Symbol) (ss : List Symbol) → IsEnd (first_of g extended s ss).rest ss
+pub first-end : (g : Groups) (extended : Bool) (s : Symbol) (ss : List Symbol) → IsEnd (first_of g extended s ss).rest ss
 unfolding first_of
 first-end g extended s ss = by (kind_at extended s ss)
   where

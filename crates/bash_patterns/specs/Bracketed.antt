@@ -87,6 +87,14 @@ abbrev pub closes : Bool → Role → Bool
 closes false role.BracketClosing = true
 closes _ _ = false
 
+-- `[` and `]` that are not quoted
+abbrev pub is_opening : Symbol → Bool
+is_opening (Unquoted b) = b == 91
+is_opening (Quoted b) = false
+
+abbrev pub is_closing : Symbol → Bool
+is_closing s = closes false (role_of s)
+
 -- the members from here on, behind so many symbols that are taken already; none, where no bracket closes them
 unfoldable pub members_from : Bool → ℕ → List Symbol → Option Closed
 members_from first k [] = None

@@ -1,6 +1,7 @@
 -- Bracket expressions: which bytes they match (Bash Reference Manual, "Pattern Matching").
 use Rattle.std.specs.Prelude.{ℕ, Bool, ◌==◌, ◌&&◌, ◌||◌, not, nat_le, if◌then◌else◌}
 use Rattle.std.specs.List.{list_any}
+use Rattle.eb_bytes.specs.Class.{is_blank, is_digit, is_letter, is_letter_or_digit, is_lower, is_upper}
 use Rattle.bash_patterns.specs.declared.class.Class.{Class}
 use Rattle.bash_patterns.specs.declared.class.Class.TheVariants.{Alnum, Alpha, Blank, Cntrl, Digit, Graph, Lower, Print, Punct, Space, Upper, Xdigit}
 use Rattle.bash_patterns.specs.declared.bracket.Member.{Member}
@@ -13,18 +14,18 @@ is_between low high b = nat_le low b && nat_le b high
 
 -- the classes of POSIX, in ASCII
 abbrev pub in_class : Class → ℕ → Bool
-in_class Alnum b = is_between 48 57 b || (is_between 65 90 b || is_between 97 122 b)
-in_class Alpha b = is_between 65 90 b || is_between 97 122 b
-in_class Blank b = b == 9 || b == 32
+in_class Alnum b = is_letter_or_digit b
+in_class Alpha b = is_letter b
+in_class Blank b = is_blank b
 in_class Cntrl b = is_between 0 31 b || b == 127
-in_class Digit b = is_between 48 57 b
+in_class Digit b = is_digit b
 in_class Graph b = is_between 33 126 b
-in_class Lower b = is_between 97 122 b
+in_class Lower b = is_lower b
 in_class Print b = is_between 32 126 b
-in_class Punct b = is_between 33 47 b || (is_between 58 64 b || (is_between 91 96 b || is_between 123 126 b))
+in_class Punct b = is_between 33 126 b && not (is_letter_or_digit b)
 in_class Space b = is_between 9 13 b || b == 32
-in_class Upper b = is_between 65 90 b
-in_class Xdigit b = is_between 48 57 b || (is_between 65 70 b || is_between 97 102 b)
+in_class Upper b = is_upper b
+in_class Xdigit b = is_digit b || (is_between 65 70 b || is_between 97 102 b)
 
 abbrev pub in_member : ℕ → Member → Bool
 in_member b (member.Range low high) = is_between low high b

@@ -7,6 +7,7 @@ pub mod Joining
 pub mod Kept
 pub mod Left
 pub mod Matching
+pub mod Outlook
 pub mod Parts
 pub mod Pattern
 pub mod Places

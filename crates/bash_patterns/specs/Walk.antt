@@ -1,24 +1,66 @@
--- How a text is walked, byte by byte from its end, with the places kept at which the rest of the pattern matches.
-use Rattle.std.specs.Prelude.{Bool, true, false, ◌&&◌, ◌||◌, List, [], ◌∷◌, ◌++◌}
+-- How a text is walked, byte by byte, with a value kept for each place in the pattern: what is known of the ways in which
+-- the rest of the pattern can match from there.
+use Rattle.std.specs.Prelude.{ℕ, suc, zero, Bool, true, false, ◌&&◌, ◌||◌, nat_le, min, List, [], ◌∷◌, ◌++◌, length, Option, Some, None, if◌then◌else◌}
 use Rattle.eb_bytes.specs.Text.{Text}
 use Rattle.bash_patterns.specs.declared.test.Test.{Test}
+use Rattle.bash_patterns.specs.declared.way.Goal.{Goal}
+use Rattle.bash_patterns.specs.declared.way.Goal.TheVariants.{End, Anywhere}
 use Rattle.bash_patterns.specs.Form.{Form, Empty, Single, Whatever, Both, Choice, AtMostOnce, AnyTimes, OnceOrMore, Not, passes}
 
--- what was kept first; nothing kept means no
-abbrev pub first_kept : List Bool → Bool
-first_kept [] = false
-first_kept (k ∷ ks) = k
+-- values: the one where no way is known, and one of two ways
+pub record Values (V : Type 0) : Type 0 where
+  pub none : V
+  pub either : V → V → V
 
-abbrev pub rest_kept : List Bool → List Bool
+-- whether there is a way
+abbrev pub truths : Values Bool
+truths = record { none = false; either = λ a b. a || b }
+
+-- the end that a walk comes to first, of two
+abbrev pub nearer : Option ℕ → Option ℕ → Option ℕ
+nearer None b = b
+nearer (Some m) None = Some m
+nearer (Some m) (Some n) = Some (min m n)
+
+-- where the match ends that the walk comes to first, as the number of bytes that it has walked there
+abbrev pub ends : Values (Option ℕ)
+ends = record { none = None; either = nearer }
+
+-- where a match ends that ends after so many bytes of the walk, if one may
+abbrev pub end_of : Goal → ℕ → Option ℕ
+end_of End zero = Some 0
+end_of End (suc n) = None
+end_of Anywhere n = Some n
+
+-- a match that leaves at most so many bytes
+abbrev pub leaves : ℕ → Text → Bool
+leaves most t = nat_le (length t) most
+
+-- the same of the number
+abbrev pub is_within : ℕ → Option ℕ → Bool
+is_within most None = false
+is_within most (Some n) = nat_le n most
+
+-- what was kept first
+abbrev pub first_kept : {V : Type 0} → V → List V → V
+first_kept none [] = none
+first_kept none (k ∷ ks) = k
+
+abbrev pub rest_kept : {V : Type 0} → List V → List V
 rest_kept [] = []
 rest_kept (k ∷ ks) = ks
 
--- whether the text begins with a byte that passes
-abbrev pub begins_with : Test → Text → Bool
-begins_with test [] = false
-begins_with test (b ∷ t) = passes test b
+-- a value, where values are to be kept
+abbrev pub kept_if : {V : Type 0} → Bool → V → List V
+kept_if true v = v ∷ []
+kept_if false v = []
 
--- whether no part of the form is what does not match another; only such a form is walked by the places kept
+-- whether there is a byte, and it passes
+abbrev pub passes_next : Test → Option ℕ → Bool
+passes_next test None = false
+passes_next test (Some b) = passes test b
+
+-- whether no part of the form is what does not match another; only such a form is walked so
 abbrev pub is_plain : Form → Bool
 is_plain Empty = true
 is_plain (Single test) = true
@@ -30,50 +72,42 @@ is_plain (AnyTimes p) = is_plain p
 is_plain (OnceOrMore p) = is_plain p
 is_plain (Not p) = false
 
--- what a form gives before a text, where `after` says whether what follows the form matches there, and what was kept
--- for the forms before it
-pub record Peek : Type 0 where
-  pub value : Bool
-  pub rest : List Bool
+-- the value of a form, what was kept for the forms before it, and what is kept of this form for the next byte
+pub record Step (V : Type 0) : Type 0 where
+  pub value : V
+  pub rest : List V
+  pub kept : List V
 
-unfoldable pub peek : Form → Text → List Bool → Bool → Peek
-peek Empty t old after = record { value = after; rest = old }
-peek (Single test) t old after = record { value = first_kept old && begins_with test t; rest = rest_kept old }
-peek Whatever t old after = record { value = after || first_kept old; rest = rest_kept old }
-peek (Both p q) t old after = peek p t (peek q t old after).rest (peek q t old after).value
-peek (Choice p q) t old after =
-    record { value = (peek q t old after).value || (peek p t (peek q t old after).rest after).value; rest = (peek p t (peek q t old after).rest after).rest }
-peek (AtMostOnce p) t old after = record { value = after || (peek p t old after).value; rest = (peek p t old after).rest }
-peek (AnyTimes p) t old after = record { value = after || (peek p t old false).value; rest = (peek p t old false).rest }
-peek (OnceOrMore p) t old after = peek p t old after
-peek (Not p) t old after = record { value = false; rest = old }
-
--- the same, with what is kept for the next byte
-pub record Step : Type 0 where
-  pub value : Bool
-  pub rest : List Bool
-  pub kept : List Bool
-
-unfoldable pub step : Form → Text → List Bool → Bool → Step
-step Empty t old after = record { value = after; rest = old; kept = [] }
-step (Single test) t old after =
-    record { value = first_kept old && begins_with test t; rest = rest_kept old; kept = after ∷ [] }
-step Whatever t old after =
-    record { value = after || first_kept old; rest = rest_kept old; kept = (after || first_kept old) ∷ [] }
-step (Both p q) t old after =
-    let second = step q t old after in
-    let first = step p t second.rest second.value in
+-- a step of the walk onto a byte, or to where it begins: `old` is what was kept one byte before, and `after` the value of
+-- what follows the form; where nothing is to be kept, it only says the value
+unfoldable pub step : {V : Type 0} → Values V → Form → Bool → Option ℕ → List V → V → Step V
+step v Empty keeps byte old after = record { value = after; rest = old; kept = [] }
+step v (Single test) keeps byte old after =
+    record { value = if passes_next test byte then first_kept v.none old else v.none; rest = rest_kept old; kept = kept_if keeps after }
+step v Whatever keeps byte old after =
+    let value = v.either after (first_kept v.none old) in
+    record { value = value; rest = rest_kept old; kept = kept_if keeps value }
+step v (Both p q) keeps byte old after =
+    let second = step v q keeps byte old after in
+    let first = step v p keeps byte second.rest second.value in
     record { value = first.value; rest = first.rest; kept = second.kept ++ first.kept }
-step (Choice p q) t old after =
-    let second = step q t old after in
-    let first = step p t second.rest after in
-    record { value = second.value || first.value; rest = first.rest; kept = second.kept ++ first.kept }
-step (AtMostOnce p) t old after =
-    let once = step p t old after in
-    record { value = after || once.value; rest = once.rest; kept = once.kept }
-step (AnyTimes p) t old after =
-    let any = after || (peek p t old false).value in
-    let once = step p t old any in
-    record { value = any; rest = once.rest; kept = once.kept }
-step (OnceOrMore p) t old after = step p t old (after || (peek p t old false).value)
-step (Not p) t old after = record { value = false; rest = old; kept = [] }
+step v (Choice p q) keeps byte old after =
+    let second = step v q keeps byte old after in
+    let first = step v p keeps byte second.rest after in
+    record { value = v.either second.value first.value; rest = first.rest; kept = second.kept ++ first.kept }
+step v (AtMostOnce p) keeps byte old after =
+    let once = step v p keeps byte old after in
+    record { value = v.either after once.value; rest = once.rest; kept = once.kept }
+step v (AnyTimes p) false byte old after =
+    let ahead = step v p false byte old v.none in
+    record { value = v.either after ahead.value; rest = ahead.rest; kept = ahead.kept }
+step v (AnyTimes p) true byte old after =
+    let ahead = step v p false byte old v.none in
+    let again = step v p true byte old (v.either after ahead.value) in
+    record { value = v.either after ahead.value; rest = again.rest; kept = ahead.kept ++ again.kept }
+step v (OnceOrMore p) false byte old after = step v p false byte old after
+step v (OnceOrMore p) true byte old after =
+    let ahead = step v p false byte old v.none in
+    let again = step v p true byte old (v.either after ahead.value) in
+    record { value = again.value; rest = again.rest; kept = ahead.kept ++ again.kept }
+step v (Not p) keeps byte old after = record { value = v.none; rest = old; kept = [] }

@@ -1,6 +1,7 @@
-ghost use Rattle.std.specs.Prelude.{◌≡◌, ◌≤◌, drop, length, true, IfOk, IfSome};
+ghost use Rattle.std.specs.Prelude.{◌≡◌, ◌-◌, ◌≤◌, ◌&&◌, drop, false, length, nat_le, true, IfOk, IfSome};
+ghost use Rattle.std.specs.List.{list_any};
 ghost use Rattle.std.specs.Option.{option_map};
-ghost use Rattle.bash_patterns.specs.Bracketed.{as_bracket, bracket_at, closes, member_at, members_from, negates, range_end, range_or_byte};
+ghost use Rattle.bash_patterns.specs.Bracketed.{as_bracket, bracket_at, closes, is_closing, is_opening, member_at, members_from, negates, range_end, range_or_byte};
 ghost use Rattle.bash_patterns.specs.Seen.{seen_closed, seen_read};
 
 use crate::bracket::{Bracket, Member, Members};
@@ -160,4 +161,26 @@ fn bracket_of(
             rest: read.rest,
         })),
     }
+}
+
+/// How many symbols at the end hold no closing bracket, so that no bracket closes that opens before one of them.
+pub fn unclosed(symbols: &[Symbol]) -> usize
+    ensures fits { result ≤ length symbols.now }
+    ensures none { list_any is_closing (drop (length symbols.now - result) symbols.now) ≡ false }
+{
+    for count in 0..symbols.len() {
+        let symbol = symbols[symbols.len() - 1 - count];
+        if closes(false, symbol.role()) {
+            return count;
+        }
+    }
+    symbols.len()
+}
+
+/// Whether this is an opening bracket that never closes, since only symbols follow that hold no closing one: `unclosed`
+/// of them at the end hold none.
+pub fn is_lone(symbol: Symbol, behind: &[Symbol], unclosed: usize) -> bool
+    ensures { result ≡ (is_opening symbol && nat_le (length behind.now) unclosed) }
+{
+    matches!(symbol, Symbol::Unquoted(b'[')) && behind.len() <= unclosed
 }

@@ -4,6 +4,7 @@ ghost use Rattle.bash_patterns.specs.Bracketed.{all_classes, begins_unquoted, cl
 ghost use Rattle.bash_patterns.specs.Brackets.{in_class};
 
 use crate::symbol::Symbol;
+use eb_bytes::{is_blank, is_digit, is_letter, is_letter_or_digit, is_lower, is_upper};
 use std::cmp::Ordering;
 
 /// The character classes of POSIX, in ASCII.
@@ -91,18 +92,18 @@ impl Class {
         ensures { result ≡ in_class self byte }
     {
         match self {
-            Class::Alnum => matches!(byte, b'0'..=b'9' | b'A'..=b'Z' | b'a'..=b'z'),
-            Class::Alpha => matches!(byte, b'A'..=b'Z' | b'a'..=b'z'),
-            Class::Blank => matches!(byte, b'\t' | b' '),
+            Class::Alnum => is_letter_or_digit(byte),
+            Class::Alpha => is_letter(byte),
+            Class::Blank => is_blank(byte),
             Class::Cntrl => matches!(byte, 0..=31 | 127),
-            Class::Digit => matches!(byte, b'0'..=b'9'),
+            Class::Digit => is_digit(byte),
             Class::Graph => matches!(byte, 33..=126),
-            Class::Lower => matches!(byte, b'a'..=b'z'),
+            Class::Lower => is_lower(byte),
             Class::Print => matches!(byte, 32..=126),
-            Class::Punct => matches!(byte, 33..=47 | 58..=64 | 91..=96 | 123..=126),
+            Class::Punct => matches!(byte, 33..=126) && !is_letter_or_digit(byte),
             Class::Space => matches!(byte, 9..=13 | 32),
-            Class::Upper => matches!(byte, b'A'..=b'Z'),
-            Class::Xdigit => matches!(byte, b'0'..=b'9' | b'A'..=b'F' | b'a'..=b'f'),
+            Class::Upper => is_upper(byte),
+            Class::Xdigit => is_digit(byte) || matches!(byte, b'A'..=b'F' | b'a'..=b'f'),
         }
     }
 }

@@ -1,11 +1,14 @@
 use eb_bytes::Memory;
+use thiserror::Error;
 
 /// Why a pattern was not compiled.
-#[derive(Clone, Copy, Debug, PartialEq, Eq)]
+#[derive(Clone, Copy, Debug, PartialEq, Eq, Error)]
 pub enum PatErr {
     /// More than 64 groups are nested.
+    #[error("more than 64 groups are nested")]
     TooDeep,
     /// Memory ran out.
+    #[error("out of memory")]
     Memory,
 }
 

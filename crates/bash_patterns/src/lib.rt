@@ -10,8 +10,9 @@ mod error;
 mod follow;
 mod group;
 mod join;
-mod laws;
+pub mod laws;
 mod left;
+mod matches;
 mod node;
 mod order;
 mod pattern;
@@ -19,12 +20,9 @@ mod places;
 mod read;
 mod symbol;
 mod test;
-#[cfg(test)]
-mod tests;
 mod walk;
 mod way;
 mod within;
 
 pub use error::PatErr;
-pub use laws::repeats_are_any_parts;
 pub use pattern::Pattern;

@@ -3,10 +3,11 @@ ghost use Rattle.bash_patterns.specs.Form.{form_of};
 ghost use Rattle.bash_patterns.specs.Joining.{IsReadAs};
 ghost use Rattle.bash_patterns.specs.Matching.{matches as matches_form};
 ghost use Rattle.bash_patterns.specs.Pattern.{meaning};
-ghost use Rattle.bash_patterns.specs.Places.{IsFirstBegin, IsGreatest, IsLeast, IsLeftmost, matches_before, matches_from};
+ghost use Rattle.bash_patterns.specs.Places.{all_matches as all_matches_of, first_begin, leftmost, longest_prefix, longest_suffix, shortest_prefix, shortest_suffix};
 ghost use Rattle.bash_patterns.specs.Reading.{pattern_of};
 
 use crate::error::PatErr;
+use crate::matches::all_matches;
 use crate::node::Node;
 use crate::places::{first_true, from_end, last_true, value_at};
 use crate::read::read;
@@ -57,7 +58,7 @@ impl Pattern {
     /// # Errors
     /// `Memory` where there is no room for the walk.
     pub fn shortest_prefix(&self, text: &[u8]) -> Result<Option<usize>, Memory>
-        ensures { IfOk result (λ place. IsLeast (matches_before (meaning self.now) text.now) (length text.now) place) }
+        ensures { IfOk result (λ place. place ≡ shortest_prefix (meaning self.now) text.now) }
     {
         let fronts = walk(self.alloc, &self.root, Way::Forward, text, Goal::End)?;
         Ok(first_true(fronts.as_slice()))
@@ -68,7 +69,7 @@ impl Pattern {
     /// # Errors
     /// `Memory` where there is no room for the walk.
     pub fn longest_prefix(&self, text: &[u8]) -> Result<Option<usize>, Memory>
-        ensures { IfOk result (λ place. IsGreatest (matches_before (meaning self.now) text.now) (length text.now) place) }
+        ensures { IfOk result (λ place. place ≡ longest_prefix (meaning self.now) text.now) }
     {
         let fronts = walk(self.alloc, &self.root, Way::Forward, text, Goal::End)?;
         Ok(last_true(fronts.as_slice()))
@@ -79,7 +80,7 @@ impl Pattern {
     /// # Errors
     /// `Memory` where there is no room for the walk.
     pub fn shortest_suffix(&self, text: &[u8]) -> Result<Option<usize>, Memory>
-        ensures { IfOk result (λ place. IsGreatest (matches_from (meaning self.now) text.now) (length text.now) place) }
+        ensures { IfOk result (λ place. place ≡ shortest_suffix (meaning self.now) text.now) }
     {
         let ends = walk(self.alloc, &self.root, Way::Backward, text, Goal::End)?;
         Ok(from_end(text, first_true(ends.as_slice())))
@@ -90,7 +91,7 @@ impl Pattern {
     /// # Errors
     /// `Memory` where there is no room for the walk.
     pub fn longest_suffix(&self, text: &[u8]) -> Result<Option<usize>, Memory>
-        ensures { IfOk result (λ place. IsLeast (matches_from (meaning self.now) text.now) (length text.now) place) }
+        ensures { IfOk result (λ place. place ≡ longest_suffix (meaning self.now) text.now) }
     {
         let ends = walk(self.alloc, &self.root, Way::Backward, text, Goal::End)?;
         Ok(from_end(text, last_true(ends.as_slice())))
@@ -100,8 +101,9 @@ impl Pattern {
     ///
     /// # Errors
     /// `Memory` where there is no room for the walks.
+    #[tactic(auto, using(crate::proofs::Placed::none_past, crate::proofs::Placed::leftmost_none))]
     pub fn first_match(&self, text: &[u8], from: usize) -> Result<Option<(usize, usize)>, Memory>
-        ensures { IfOk result (λ places. IsLeftmost (meaning self.now) text.now from places) }
+        ensures { IfOk result (λ places. places ≡ leftmost (meaning self.now) text.now from) }
     {
         if from > text.len() {
             return Ok(None);
@@ -110,15 +112,27 @@ impl Pattern {
             return Ok(None);
         };
         match self.longest_prefix(&text[begin..])? {
-            Some(length) => Ok(Some((begin, begin + length))),
+            Some(size) => Ok(Some((begin, begin + size))),
             None => Ok(None),
         }
+    }
+
+    /// All matches from left to right: where each begins and where it ends. Each is the longest that begins where it
+    /// does, none overlap, and none is empty. Where no `!(..)` stands in the pattern this takes one walk over the text;
+    /// else one, and one over the rest of the text for each place that no match has taken and where one begins.
+    ///
+    /// # Errors
+    /// `Memory` where there is no room for the walks or for the matches.
+    pub fn all_matches(&self, text: &[u8]) -> Result<Vec<(usize, usize)>, Memory>
+        ensures { IfOk result (λ found. found.items ≡ all_matches_of (meaning self.now) text.now) }
+    {
+        all_matches(self.alloc, &self.root, text)
     }
 
     // The first place from `from` on at which a match begins.
     fn first_begin(&self, text: &[u8], from: usize) -> Result<Option<usize>, Memory>
         requires { from ≤ length text.now }
-        ensures { IfOk result (λ begin. IsFirstBegin (meaning self.now) text.now from begin) }
+        ensures { IfOk result (λ begin. begin ≡ first_begin (meaning self.now) text.now from) }
     {
         let rest = &text[from..];
         let begins = walk(self.alloc, &self.root, Way::Backward, rest, Goal::Anywhere)?;

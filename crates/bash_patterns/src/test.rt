@@ -1,10 +1,8 @@
 ghost use Rattle.std.specs.Prelude.{◌≡◌};
 ghost use Rattle.bash_patterns.specs.Form.{passes as passes_test};
-ghost use Rattle.bash_patterns.specs.Facing.{facing};
-ghost use Rattle.bash_patterns.specs.Walk.{begins_with};
+ghost use Rattle.bash_patterns.specs.Walk.{passes_next as passes_next_of};
 
 use crate::bracket::Bracket;
-use crate::way::Way;
 
 /// What one byte of a text is asked.
 #[derive(Debug, Drop)]
@@ -29,11 +27,11 @@ impl Test {
         }
     }
 
-    /// Whether the byte passes that a walk has just come to, where it has walked this text.
-    pub fn passes_first(&self, way: Way, text: &[u8]) -> bool
-        ensures { result ≡ begins_with self.now (facing way text.now) }
+    /// Whether there is a byte, and it passes.
+    pub fn passes_next(&self, byte: Option<u8>) -> bool
+        ensures { result ≡ passes_next_of self.now byte }
     {
-        match way.first(text) {
+        match byte {
             Some(byte) => self.passes(byte),
             None => false,
         }

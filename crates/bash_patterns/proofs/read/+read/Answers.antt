@@ -5,29 +5,41 @@ use Rattle.std.proofs.lemmas.Result.{err_from_is_err_and}
 use Rattle.bash_patterns.specs.Joining.{groups_of, language, languages}
 use Rattle.bash_patterns.specs.Reading.{each_form, forms_from, reading}
 use Rattle.bash_patterns.specs.Seen.{seen_alternatives}
+use Rattle.bash_patterns.proofs.Lone.{end_after, end_next, lone_next}
+use Rattle.bash_patterns.proofs.Members.{whole_end}
 use Rattle.bash_patterns.proofs.Readings.{no_parts_left, parts_at, err-retyped, added_group, added_plain, added_single, each_deep, each_next, first_parted, first_plain, first_single, group_deep, group_done, groups_none, read_begun, read_deep, read_done, read_next, shorter_rest}
 use Rattle.bash_patterns.proofs.read.+read.Goals as goal
 
 pub read-loop-symbol-init : goal.read-loop-symbol-init
-read-loop-symbol-init t c =
-    read_begun (forms_from (groups_of c.args.levels c.args.extended) c.args.extended 0 c.args.symbols.now) c.new-row.result.items c.new-row.ensures.items
+read-loop-symbol-init t c = record {
+  forms = read_begun (forms_from (groups_of c.args.levels c.args.extended) c.args.extended 0 c.args.symbols.now) c.new-row.result.items c.new-row.ensures.items;
+  end = whole_end c.args.symbols.now;
+}
+
+pub read-loop-symbol-preserved-then-is_lone : goal.read-loop-symbol-preserved-then-is_lone
+read-loop-symbol-preserved-then-is_lone t c = record {
+  forms = lone_next (groups_of c.args.levels c.args.extended) c.args.extended c.in-Some.symbol c.in-Some.behind.now c.loop-symbol.rest.now c.args.symbols.now _ (languages c.loop-symbol.row.items) _ _ c.loop-symbol.invariant.forms c.loop-symbol.invariant.end c.in-Some.ensures (sym c.is_lone.ensures ∙ c.if-is_lone.true) c.unclosed-unclosed.ensures.fits c.unclosed-unclosed.ensures.none c.in_ok-push_plain.ensures;
+  end = end_after c.in-Some.symbol c.in-Some.behind.now c.loop-symbol.rest.now c.args.symbols.now c.in-Some.ensures c.loop-symbol.invariant.end;
+}
 
 pub read-returns-in_err-rest-clause-deep : goal.read-returns-in_err-rest-clause-deep
 read-returns-in_err-rest-clause-deep t c =
-    let p = err_from_is_err_and c.from_residual.result c.from_residual.ensures.1 in
-    rw (p.1, p.2) (λ h. read_deep c.args.levels c.args.extended c.in-Some.symbol c.in-Some.behind.now c.loop-symbol.rest.now c.args.symbols.now (languages c.loop-symbol.row.items) c.loop-symbol.invariant c.in-Some.ensures (c.in_err-rest.ensures.deep (err-retyped _ _ h)))
+    let p = err_from_is_err_and c.from_residual-in_err-rest.result c.from_residual-in_err-rest.ensures.1 in
+    rw (p.1, p.2) (λ h. read_deep c.args.levels c.args.extended c.in-Some.symbol c.in-Some.behind.now c.loop-symbol.rest.now c.args.symbols.now (languages c.loop-symbol.row.items) c.loop-symbol.invariant.forms c.in-Some.ensures (c.in_err-rest.ensures.deep (err-retyped _ _ h)))
 
 pub read-loop-symbol-smaller : goal.read-loop-symbol-smaller
 read-loop-symbol-smaller t c =
     shorter_rest (groups_of c.args.levels c.args.extended) c.args.extended c.in-Some.symbol c.in-Some.behind.now c.loop-symbol.rest.now c.in_ok-rest.rest.now c.in-Some.ensures c.in_ok-rest.ensures.rest
 
 pub read-loop-symbol-preserved : goal.read-loop-symbol-preserved
-read-loop-symbol-preserved t c =
-    read_next (groups_of c.args.levels c.args.extended) c.args.extended c.in-Some.symbol c.in-Some.behind.now c.loop-symbol.rest.now c.in_ok-rest.rest.now (languages c.loop-symbol.row.items) (languages c.read_first.new.row.items) _ c.loop-symbol.invariant c.in-Some.ensures c.in_ok-rest.ensures.rest c.in_ok-rest.ensures.added
+read-loop-symbol-preserved t c = record {
+  forms = read_next (groups_of c.args.levels c.args.extended) c.args.extended c.in-Some.symbol c.in-Some.behind.now c.loop-symbol.rest.now c.in_ok-rest.rest.now (languages c.loop-symbol.row.items) (languages c.read_first.new.row.items) _ c.loop-symbol.invariant.forms c.in-Some.ensures c.in_ok-rest.ensures.rest c.in_ok-rest.ensures.added;
+  end = end_next (groups_of c.args.levels c.args.extended) c.args.extended c.in-Some.symbol c.in-Some.behind.now c.loop-symbol.rest.now c.in_ok-rest.rest.now c.args.symbols.now c.in-Some.ensures c.in_ok-rest.ensures.rest c.loop-symbol.invariant.end;
+}
 
 pub read-returns-clause-ok : goal.read-returns-clause-ok
 read-returns-clause-ok t c =
-    read_done c.args.levels c.args.extended c.args.symbols.now c.loop-symbol.rest.now c.loop-symbol.row.items c.len-count.result (language c.in_ok-node.node) c.loop-symbol.invariant c.in_default.ensures (search rules) c.in_ok-node.ensures.node
+    read_done c.args.levels c.args.extended c.args.symbols.now c.loop-symbol.rest.now c.loop-symbol.row.items c.len-count.result (language c.in_ok-node.node) c.loop-symbol.invariant.forms c.in_default.ensures (search rules) c.in_ok-node.ensures.node
 
 pub read_first-returns-in_default-clause-rest : goal.read_first-returns-in_default-clause-rest
 read_first-returns-in_default-clause-rest t c =
