@@ -7,7 +7,7 @@ pub enum PatErr {
     /// More than 64 groups are nested.
     #[error("more than 64 groups are nested")]
     TooDeep,
-    /// Memory ran out.
+    /// Out of memory.
     #[error("out of memory")]
     Memory,
 }

@@ -21,13 +21,16 @@ ghost use Rattle.eb_grammar.specs.AnsiText.{
 
 use eb_bytes::{Bytes, Memory, is_digit};
 use std::alloc::Global;
+use thiserror::Error;
 
 /// Why a text in `$'..'` has no value.
-#[derive(Clone, Copy, Debug, PartialEq, Eq)]
+#[derive(Clone, Copy, Debug, PartialEq, Eq, Error)]
 pub enum AnsiErr {
     /// It has an escape `\u`, `\U` or `\c`, which this shell refuses.
+    #[error("an escape that is not supported")]
     Quoting,
-    /// There was no room.
+    /// Out of memory.
+    #[error("out of memory")]
     Memory,
 }
 
