@@ -1,5 +1,5 @@
 -- A text that is appended in place.
-use Rattle.std.proofs.Common.{◌≡◌, Bool, true, false, cond, [], ◌++◌, Option, Some, None, Ok, Err, refl, sym, ap, ◌∙◌, nat_cmp}
+use Rattle.std.proofs.Common.{◌≡◌, true, false, cond, [], ◌++◌, Option, Some, None, Ok, Err, refl, ap, ◌∙◌, nat_cmp}
 use Rattle.std.specs.Prelude.{is_some, unwrap_or}
 use Rattle.std.specs.FinMap as map
 use Rattle.std.specs.FinMap.{get-empty}

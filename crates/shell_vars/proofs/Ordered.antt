@@ -1,13 +1,13 @@
 -- A `BTreeMap`, seen as a finite map.
 use Rattle.std.proofs.Common.{◌≡◌, T, List, [], ◌∷◌, Option, Some, None, Bool, true, false, cond, refl, sym, ap, subst, ◌∙◌, Ordering, Less, Equal, Greater}
-use Rattle.std.specs.Ordering.{eq_by_cmp, is_eq, is_lt, match_ordering}
+use Rattle.std.specs.Ordering.{eq_by_cmp, is_eq, match_ordering}
 use Rattle.std.specs.Cmp.{IsTotalOrder, eq_by_cmp_equiv, alike_right}
 use Rattle.std.specs.List.{AllByRecursion}
 use Rattle.std.specs.List.Sorted.{IsStrictlySortedBy}
 use Rattle.std.specs.Map.{keys_of, lookup, remove_entry, set_value}
 use Rattle.std.specs.BTreeMap.{is_at, insert_entry}
 use Rattle.std.specs.FinMap as map
-use Rattle.std.specs.FinMap.{find, put, is_sorted, same_map, same_entries_map, get-empty, get-insert, get-remove, get-from_entries, get-from_sorted, entries-from_sorted, get-entries, entries_sorted}
+use Rattle.std.specs.FinMap.{find, put, is_sorted, same_map, get-empty, get-insert, get-remove, get-from_entries, get-from_sorted, entries-from_sorted, get-entries, entries_sorted}
 use Rattle.std.specs.FinMap.Entries.{by_order, below_all, find-put, find_tied}
 use Rattle.std.proofs.lemmas.Map.Keys.{sorted_head, sorted_tail}
 use Rattle.shell_vars.proofs.Sorted.{and_left, and_right, both, is_less, find_below}

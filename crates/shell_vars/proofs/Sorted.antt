@@ -1,14 +1,12 @@
 -- Finite maps as lists of entries whose keys rise, and sums over them.
-use Rattle.std.proofs.Common.{◌≡◌, ℕ, zero, suc, ◌+◌, ◌<◌, ◌≤◌, Bool, true, false, cond, not, T, List, [], ◌∷◌, length, get_or, set, Option, Some, None, Result, Ok, Err, refl, sym, ap, subst, ◌∙◌, arith, Ordering, Less, Equal, Greater}
+use Rattle.std.proofs.Common.{◌≡◌, ℕ, ◌+◌, Bool, true, false, cond, not, T, List, [], ◌∷◌, Option, Some, None, refl, sym, ap, subst, ◌∙◌, arith, Ordering, Less, Equal, Greater}
 use Rattle.std.specs.Prelude.{IsTrue, ◌&&◌, sum_by}
-use Rattle.std.specs.List.{insert, remove, list_all}
 use Rattle.std.specs.Option.{option_map_or}
 use Rattle.std.specs.Ordering.{eq_by_cmp, is_eq, is_lt}
 use Rattle.std.specs.Cmp.{IsTotalOrder, eq_by_cmp_equiv, alike_right}
 use Rattle.std.specs.FinMap as map
-use Rattle.std.specs.FinMap.{find, put, is_sorted, len-empty, len-entries, same_map, same_entries_map, get-remove, get-from_sorted, entries-from_sorted, entries-insert, get-entries, entries_sorted}
-use Rattle.std.specs.FinMap.Entries.{where_key, below_all, by_order, is_sorted-put, is_sorted-where_key, find-where_key}
-use Rattle.std.proofs.lemmas.List.{nil_from_length}
+use Rattle.std.specs.FinMap.{find, put, is_sorted, same_map, same_entries_map, get-remove, get-from_sorted, entries-from_sorted, entries-insert, get-entries, entries_sorted}
+use Rattle.std.specs.FinMap.Entries.{where_key, below_all, by_order, is_sorted-where_key, find-where_key}
 use Rattle.std.proofs.lemmas.List.Sums.{sum_by-cons}
 
 turned : {A : Type 0} (b : Bool) (x y : A) → cond (not b) x y ≡ cond b y x

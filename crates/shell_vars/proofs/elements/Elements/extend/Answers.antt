@@ -1,8 +1,7 @@
-use Rattle.std.proofs.Common.{◌≡◌, ℕ, ◌++◌, Some, None, ap, sym, subst, ◌∙◌, nat_cmp}
+use Rattle.std.proofs.Common.{◌≡◌, ℕ, ◌++◌, None, ap, sym, subst, ◌∙◌}
 use Rattle.std.specs.Prelude.{OnOk, OnErr, is_some}
-use Rattle.std.specs.BTreeMap.{BTreeMap, is_at}
+use Rattle.std.specs.BTreeMap.{BTreeMap}
 use Rattle.std.specs.FinMap as map
-use Rattle.std.specs.Map.{lookup}
 use Rattle.eb_bytes.specs.Text.{Text}
 use Rattle.shell_vars.specs.declared.elements.Elements.TheInside.{Inside}
 use Rattle.shell_vars.specs.Elements.{have_indices}

@@ -1,11 +1,11 @@
-use Rattle.std.proofs.Common.{◌≡◌, ◌+◌, ◌≤◌, ◌∷◌, length, refl, ap, sym, ◌∙◌, arith, rules}
+use Rattle.std.proofs.Common.{◌≡◌, ◌+◌, ◌∷◌, length, refl, ap, sym, ◌∙◌, arith, rules}
 use Rattle.std.specs.Prelude.{map as map_list}
 use Rattle.std.specs.FinMap as map
 use Rattle.std.specs.FinMap.{len-entries}
 use Rattle.std.proofs.lemmas.Bool.Decides.{nat_tests}
 use Rattle.std.proofs.lemmas.Map.Entries.{length-values_of}
 use Rattle.std.proofs.lemmas.Map.Iter.{rest_more}
-use Rattle.shell_vars.specs.Elements.{next_index, put_from}
+use Rattle.shell_vars.specs.Elements.{put_from}
 use Rattle.shell_vars.proofs.Indexed.{entries_of}
 use Rattle.shell_vars.proofs.Join.{outside_more, taken_back}
 use Rattle.shell_vars.proofs.Results.{by_ok, by_err}

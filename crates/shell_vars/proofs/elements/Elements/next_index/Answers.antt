@@ -1,5 +1,5 @@
-use Rattle.std.proofs.Common.{◌≡◌, ◌+◌, ◌≤◌, length, Some, ap, sym, ◌∙◌, arith}
-use Rattle.shell_vars.specs.Elements.{index_after, next_index}
+use Rattle.std.proofs.Common.{◌≡◌, ◌+◌, length, ap, ◌∙◌, arith}
+use Rattle.shell_vars.specs.Elements.{index_after}
 use Rattle.shell_vars.proofs.Indexed.{entries_of}
 use Rattle.shell_vars.proofs.Last.{index_after-last, index_after-none, index_after-le}
 use Rattle.shell_vars.proofs.elements.Elements.next_index.Goals as goal

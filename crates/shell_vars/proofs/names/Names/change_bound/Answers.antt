@@ -1,4 +1,4 @@
-use Rattle.std.proofs.Common.{◌≡◌, ◌∷◌, Some, None, vec_items, ap, sym, subst, ◌∙◌}
+use Rattle.std.proofs.Common.{◌≡◌, None, vec_items, ap, sym, subst, ◌∙◌}
 use Rattle.std.specs.Prelude.{OnOk, OnErr, is_some, unwrap_or}
 use Rattle.std.specs.FinMap as map
 use Rattle.shell_vars.specs.declared.binding.Binding.{Binding}
