@@ -77,7 +77,7 @@ pub some_cut-empty : (k : Text → Bool) (t : Text) → some_cut (λ a c. is_emp
 some_cut-empty k [] = refl
 some_cut-empty k (b ∷ t) = ap (λ v. k (b ∷ t) || v) (some_cut-false t) ∙ or-false (k (b ∷ t))
 
--- the cut behind the last byte
+-- the cut after the last byte
 pub some_cut-whole : (m : Text → Bool) (t : Text) → some_cut (λ a c. m a && is_empty c) t ≡ m t
 some_cut-whole m [] = and-true (m [])
 some_cut-whole m (b ∷ t) =

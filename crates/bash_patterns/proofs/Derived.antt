@@ -1,4 +1,4 @@
--- What is left of forms behind a byte.
+-- What is left of forms after a byte.
 use Rattle.std.proofs.Common.{◌≡◌, ℕ, Bool, true, false, ◌&&◌, ◌||◌, not, [], ◌∷◌, refl, ap, sym, ◌∙◌}
 use Rattle.eb_bytes.specs.Text.{Text}
 use Rattle.bash_patterns.specs.declared.test.Test.{Test}
@@ -21,7 +21,7 @@ met_empty Backward p = matches-turned p []
 pub and_none : (x : Bool) → x ≡ (x && true)
 and_none x = sym (and-true x)
 
--- ---- behind a byte
+-- ---- after a byte
 
 pub behind_Empty : (w : Way) (b : ℕ) → IsBehind b (met w Empty) (Not Whatever)
 unfolding met turned matches
@@ -56,7 +56,7 @@ pub left_Not : (b : ℕ) (p p' r : Form) → IsBehind b p p' → IsSame r (Not p
 unfolding matches
 left_Not b p p' r h s = record { each = λ t. s.each t ∙ ap not (h.each t) }
 
--- a cut behind the first byte
+-- a cut after the first byte
 later-cut : (b : ℕ) (p p' q : Form) → IsBehind b p p' → (t : Text) → some_cut (λ a c. matches p (b ∷ a) && matches q c) t ≡ matches (Both p' q) t
 unfolding matches
 later-cut b p p' q h t =
@@ -90,7 +90,7 @@ pub left_open : (b : ℕ) (p p' q q' r s : Form) → IsBehind b p p' → IsSame 
 unfolding matches
 left_open b p p' q q' r s h i e k j = record { each = λ t. j.each t ∙ either_test (matches r t) (some_cut (λ a c. matches p (b ∷ a) && matches q c) t) (matches q' t) (matches q (b ∷ t)) (i.each t ∙ sym (later-cut b p p' q h t)) (k.each t) ∙ or-turned (some_cut (λ a c. matches p (b ∷ a) && matches q c) t) (matches q (b ∷ t)) ∙ ap (λ v. (v && matches q (b ∷ t)) || some_cut (λ a c. matches p (b ∷ a) && matches q c) t) (sym e) }
 
--- ---- behind a byte, of forms that a walk meets
+-- ---- after a byte, of forms that a walk meets
 
 pub behind_back : (w : Way) (b : ℕ) (p q r : Form) → w ≡ Backward → IsBehind b (Both (met w q) (met w p)) r → IsBehind b (met w (Both p q)) r
 unfolding met turned
@@ -141,6 +141,6 @@ pub left_Whatever : (b : ℕ) → IsBehind b Whatever Whatever
 unfolding matches
 left_Whatever b = record { each = λ t. refl }
 
--- a form of which some is left, and a form any number of times behind it
+-- a form of which some is left, and a form any number of times after it
 pub left_Repeated : (b : ℕ) (p p' q q' r s u : Form) → IsBehind b p p' → IsSame r (Both p' (AnyTimes q)) → matches p [] ≡ true → IsBehind b q q' → IsSame s (Both q' (AnyTimes q)) → IsSame u (Choice r s) → IsBehind b (Both p (AnyTimes q)) u
 left_Repeated b p p' q q' r s u h i e k j l = left_open b p p' (AnyTimes q) s r u h i e (left_AnyTimes b q q' s k j) l

@@ -9,7 +9,7 @@ use Rattle.bash_patterns.specs.Groups.{Cut, Parted, alternatives_at, between, cu
 use Rattle.bash_patterns.specs.Symbols.{role_of}
 use Rattle.bash_patterns.proofs.Members.{IsEnd, bracket-end}
 
--- behind these alternatives and the beginning of one
+-- after these alternatives and the beginning of one
 abbrev pub glued : List (List Symbol) → List Symbol → Option Cut → Option Parted
 glued done begun None = None
 glued done begun (Some c) = Some (record { list = done ++ (begun ++ c.first) ∷ c.others; rest = c.rest })

@@ -1,5 +1,5 @@
 -- Brackets that nothing closes.
-use Rattle.std.proofs.Common.{◌≡◌, ℕ, zero, suc, ◌+◌, ◌-◌, ◌<◌, ◌≤◌, Bool, true, false, ◌==◌, ◌&&◌, ◌||◌, nat_le, List, [], ◌∷◌, ◌++◌, length, drop, get_or, Option, Some, None, if◌then◌else◌, refl, ap, subst, sym, ◌∙◌, arith}
+use Rattle.std.proofs.Common.{◌≡◌, ℕ, zero, suc, ◌+◌, ◌-◌, ◌<◌, ◌≤◌, Bool, true, false, ◌==◌, ◌&&◌, nat_le, List, [], ◌∷◌, ◌++◌, length, drop, get_or, Option, Some, None, if◌then◌else◌, refl, ap, subst, sym, ◌∙◌, arith}
 use Rattle.std.specs.List.{list_any}
 use Rattle.std.proofs.lemmas.Bool.{and_parts, eqb-true, leb-true, or_from, or_parts}
 use Rattle.std.proofs.lemmas.List.{drop-drop, drop_all, drop_more}
@@ -8,7 +8,7 @@ use Rattle.bash_patterns.specs.declared.symbol.Symbol.TheVariants.{Unquoted, Quo
 use Rattle.bash_patterns.specs.declared.symbol.Role.{Role}
 use Rattle.bash_patterns.specs.Bracketed.{as_bracket, bracket_at, closes, is_closing, is_opening, member_at, members_from, negates, with_member}
 use Rattle.bash_patterns.specs.Form.{Form}
-use Rattle.bash_patterns.specs.Groups.{group_kind, kind_of_byte}
+use Rattle.bash_patterns.specs.Groups.{kind_of_byte}
 use Rattle.bash_patterns.specs.Joining.{IsAdded, Language}
 use Rattle.bash_patterns.specs.Matching.{matches}
 use Rattle.bash_patterns.specs.Reading.{First, Groups, bracketed, first_by, first_of, forms_from, kind_at, plain}

@@ -11,7 +11,7 @@ members-skip zero ss = refl
 members-skip (suc k) [] = refl
 members-skip (suc k) (s ∷ ss) = members-skip k ss
 
--- with these members in front
+-- with these members first
 abbrev pub added : List Member → Option Closed → Option Closed
 added done None = None
 added done (Some c) = Some (record c { members = done ++ c.members })
@@ -46,9 +46,9 @@ pub added-nothing : (o : Option Closed) → o ≡ added [] o
 added-nothing None = refl
 added-nothing (Some c) = refl
 
--- ---- what stands behind
+-- ---- what stands after
 
--- what stands behind is an end of the symbols
+-- what stands after is an end of the symbols
 pub record IsEnd (rest ss : List Symbol) : Type 0 where
   pub shorter : length rest ≤ length ss
   pub is : rest ≡ drop (length ss - length rest) ss

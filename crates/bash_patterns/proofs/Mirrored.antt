@@ -98,7 +98,7 @@ repeated-reverse m n same t = same_test (repeated n (reverse t)) (repeated m t) 
     onward : repeated m t ≡ true → repeated n (reverse t) ≡ true
     onward h = repeated_made n (reverse t) (turned_made m n (λ a. sym (same a)) t (made_repeated m t h))
 
--- ---- one part at the front, or at the back
+-- ---- one part at the beginning, or at the end
 
 front_part : (m : Text → Bool) (ps : List Text) (c : Text) → list_all m ps ≡ true → m c ≡ true → some_cut (λ a b. m a && repeated m b) (joined ps ++ c) ≡ true
 front_part m [] c h l =

@@ -1,10 +1,10 @@
 -- The least and the greatest place that passes, and the leftmost match.
 use Rattle.std.proofs.Common.{◌≡◌, ℕ, zero, suc, ◌+◌, ◌-◌, ◌<◌, ◌≤◌, Bool, true, false, ◌&&◌, nat_le, take, drop, length, Option, Some, None, if◌then◌else◌, refl, ap, subst, sym, ◌∙◌, ◌⊎◌, inl, inr, arith, length-append, length-drop}
 use Rattle.std.specs.Option.{option_and_then, option_map, option_or}
-use Rattle.std.proofs.lemmas.Bool.{and_from, cases_eq, cases_lt, cases_order, le-leb, lt-leb, leb-true}
+use Rattle.std.proofs.lemmas.Bool.{and_from, cases_lt, cases_order, le-leb, lt-leb, leb-true}
 use Rattle.std.proofs.lemmas.List.{take_at}
 use Rattle.eb_bytes.specs.Text.{Text}
-use Rattle.bash_patterns.specs.Places.{IsFirst, IsFirstBegin, IsGreatest, IsLeast, IsLeftmost, begins_at, first_begin, greatest, least, leftmost, longest_at, longest_prefix, matches_before, matches_between}
+use Rattle.bash_patterns.specs.Places.{IsFirstBegin, IsGreatest, IsLeast, IsLeftmost, begins_at, first_begin, greatest, least, leftmost, longest_at, longest_prefix, matches_before}
 use Rattle.bash_patterns.proofs.Parted.{cut_of}
 
 never : (x : Bool) → x ≡ true → x ≡ false → ⊥

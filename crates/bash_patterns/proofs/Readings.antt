@@ -19,7 +19,7 @@ use Rattle.bash_patterns.specs.Symbols.{role_of, symbols_of}
 use Rattle.bash_patterns.proofs.Joined.{choice-language, grouped-same, row-language}
 use Rattle.bash_patterns.proofs.Members.{IsEnd, bracket-end, end_more, whole_end}
 
--- ---- what stands behind
+-- ---- what stands after
 
 kept_end : (s : Symbol) (ss : List Symbol) (o : Option Cut) (c : Cut) → keeping s o ≡ Some c → ((d : Cut) → o ≡ Some d → IsEnd d.rest ss) → IsEnd c.rest (s ∷ ss)
 kept_end s ss None c e more = absurd (let never : None ≡ Some c = e in cc)
@@ -219,7 +219,7 @@ group_done n extended kind list rest nodes count choice node some c e ce ne fe =
 pub group_deep : (n : ℕ) (extended : Bool) (kind : GroupKind) (list : List (List Symbol)) → (n ≡ 0 → ⊥) → each_form (λ part. reading (n - 1) extended part) list ≡ None → groups_of n extended kind list ≡ None
 group_deep n extended kind list some deep = groups-is n extended kind list some ∙ ap (option_map (λ fs. grouped kind (choice_of fs))) deep
 
--- what stands behind the first forms is no longer than what stands behind the first symbol
+-- what stands after the first forms is no longer than what stands after the first symbol
 pub shorter_rest : (g : Groups) (extended : Bool) (s : Symbol) (behind rest rest' : List Symbol) → rest ≡ s ∷ behind → rest' ≡ (first_of g extended s behind).rest → length rest' < length rest
 shorter_rest g extended s behind rest rest' e le =
     let end = first-end g extended s behind in

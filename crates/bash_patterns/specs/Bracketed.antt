@@ -12,7 +12,7 @@ use Rattle.bash_patterns.specs.declared.symbol.Role.{Role}
 use Rattle.bash_patterns.specs.declared.symbol.Role.TheVariants as role
 use Rattle.bash_patterns.specs.Symbols.{byte_of, role_of}
 
--- how a class is written behind its bracket
+-- how a class is written after its bracket
 abbrev pub class_text : Class → Text
 class_text Alnum = codes ":alnum:]"
 class_text Alpha = codes ":alpha:]"
@@ -42,7 +42,7 @@ abbrev pub class_among : List Class → List Symbol → Option Class
 class_among [] ss = None
 class_among (c ∷ cs) ss = if begins_unquoted (class_text c) ss then Some c else class_among cs ss
 
--- a member, and how many symbols behind its first it takes
+-- a member, and how many symbols after its first it takes
 pub record Taken : Type 0 where
   pub member : Member
   pub more : ℕ
@@ -73,7 +73,7 @@ opened _ s ss = range_or_byte s (range_end ss)
 unfoldable pub member_at : Symbol → List Symbol → Taken
 member_at s ss = opened (role_of s) s ss
 
--- the members up to the closing bracket, and what stands behind it
+-- the members up to the closing bracket, and what stands after it
 pub record Closed : Type 0 where
   pub members : List Member
   pub rest : List Symbol
@@ -95,7 +95,7 @@ is_opening (Quoted b) = false
 abbrev pub is_closing : Symbol → Bool
 is_closing s = closes false (role_of s)
 
--- the members from here on, behind so many symbols that are taken already; none, where no bracket closes them
+-- the members from here on, after so many symbols that are taken already; none, where no bracket closes them
 unfoldable pub members_from : Bool → ℕ → List Symbol → Option Closed
 members_from first k [] = None
 members_from first (suc k) (s ∷ ss) = members_from false k ss
@@ -115,7 +115,7 @@ abbrev pub negates : List Symbol → Bool
 negates (Unquoted b ∷ ss) = b == 33 || b == 94
 negates _ = false
 
--- the bracket expression whose opening bracket stands before these symbols, and what stands behind it
+-- the bracket expression whose opening bracket stands before these symbols, and what stands after it
 unfoldable pub bracket_at : List Symbol → Option Read
 bracket_at [] = None
 bracket_at (s ∷ ss) =

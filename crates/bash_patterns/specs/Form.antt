@@ -11,7 +11,7 @@ passes (test.Byte c) b = b == c
 passes test.Any b = true
 passes (test.Bracket set) b = in_bracket set b
 
--- what a pattern is: no byte, one byte that passes, any text, one form and another behind it, one or the other, a form
+-- what a pattern is: no byte, one byte that passes, any text, one form and another after it, one or the other, a form
 -- or no byte, a form any number of times, a form once or more, and what does not match a form
 pub data Form : Type 0 where
   Empty : Form

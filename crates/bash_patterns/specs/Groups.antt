@@ -19,18 +19,18 @@ kind_of_byte b =
     else (if b == 33 then Some kind.NoneOf
     else None))))
 
--- the kind of the group that a symbol and an opening parenthesis behind it begin, if they do
+-- the kind of the group that a symbol and an opening parenthesis after it begin, if they do
 abbrev pub group_kind : Symbol → List Symbol → Option GroupKind
 group_kind (Unquoted b) (Unquoted c ∷ ss) = if c == 40 then kind_of_byte b else None
 group_kind _ _ = None
 
--- the first alternative, the others, and what stands behind the group
+-- the first alternative, the others, and what stands after the group
 pub record Cut : Type 0 where
   pub first : List Symbol
   pub others : List (List Symbol)
   pub rest : List Symbol
 
--- with this symbol at the front of the first alternative
+-- with this symbol at the beginning of the first alternative
 abbrev pub keeping : Symbol → Option Cut → Option Cut
 keeping s None = None
 keeping s (Some c) = Some (record c { first = s ∷ c.first })
@@ -45,7 +45,7 @@ abbrev pub past_bracket : Symbol → List Symbol → Option Read → (ℕ → Op
 past_bracket s ss None go = None
 past_bracket s ss (Some r) go = keeping s (go (length ss - length r.rest))
 
--- what a symbol does where so many parentheses stand open in the group; `go` cuts what stands behind it, by the number
+-- what a symbol does where so many parentheses stand open in the group; `go` cuts what stands after it, by the number
 -- of open parentheses and of symbols that belong to the alternative whatever they are
 abbrev pub cut_by : Role → ℕ → Symbol → List Symbol → (ℕ → ℕ → Option Cut) → Option Cut
 cut_by role.GroupOpening depth s ss go = keeping s (go (suc depth) 0)
@@ -72,7 +72,7 @@ abbrev pub parted : Option Cut → Option Parted
 parted None = None
 parted (Some c) = Some (record { list = c.first ∷ c.others; rest = c.rest })
 
--- the alternatives of the group whose opening parenthesis stands before these symbols, and what stands behind the
+-- the alternatives of the group whose opening parenthesis stands before these symbols, and what stands after the
 -- group; none, where the group never closes
 unfoldable pub alternatives_at : List Symbol → Option Parted
 alternatives_at ss = parted (cut_from 0 0 ss)

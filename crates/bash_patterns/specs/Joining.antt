@@ -18,7 +18,7 @@ language node = matches (form_of node)
 unfoldable pub languages : List Node → List Language
 languages nodes = map language nodes
 
--- one behind the other, or one or the other
+-- one after the other, or one or the other
 abbrev pub paired : Join → Language → Language → Language
 paired join.Row m n t = some_cut (λ a b. m a && n b) t
 paired join.Choice m n t = m t || n t

@@ -4,11 +4,11 @@ use Rattle.eb_bytes.specs.Text.{Text}
 use Rattle.bash_patterns.specs.Form.{Form, Empty, Single, Whatever, Both, Choice, AtMostOnce, AnyTimes, OnceOrMore, Not}
 use Rattle.bash_patterns.specs.Matching.{matches, some_cut}
 
--- whether the form matches a front of the text behind which `after` holds
+-- whether the form matches a prefix of the text after which `after` holds
 unfoldable pub starts : Form → (Text → Bool) → Text → Bool
 starts p after t = some_cut (λ a c. matches p a && after c) t
 
--- whether it matches such a front of at least a byte
+-- whether it matches such a prefix of at least a byte
 unfoldable pub later : Form → (Text → Bool) → Text → Bool
 later p after [] = false
 later p after (b ∷ t) = some_cut (λ a c. matches p (b ∷ a) && after c) t

@@ -1,4 +1,4 @@
--- What is left of a pattern behind the bytes that a walk has come past: its derivatives (Brzozowski, "Derivatives of
+-- What is left of a pattern after the bytes that a walk has passed: its derivatives (Brzozowski, "Derivatives of
 -- regular expressions", 1964).
 use Rattle.std.specs.Prelude.{◌≡◌, ℕ, Bool, true, List, ◌∷◌, ◌++◌, map, reverse}
 use Rattle.eb_bytes.specs.Text.{Text}
@@ -35,7 +35,7 @@ any_form w ls = choice_of (map (left_form w) ls)
 abbrev pub both_form : Way → List Left → List Left → Form
 both_form w ls ms = Choice (any_form w ls) (any_form w ms)
 
--- the second form matches exactly what the first matches behind this byte
+-- the second form matches exactly what the first matches after this byte
 pub record IsBehind (b : ℕ) (p q : Form) : Type 0 where
   pub each : (t : Text) → matches q t ≡ matches p (b ∷ t)
 

@@ -3,7 +3,7 @@ use Rattle.std.specs.Prelude.{◌≡◌, Bool, true, List, [], ◌∷◌, ◌++�
 use Rattle.std.specs.List.{list_all}
 use Rattle.eb_bytes.specs.Text.{Text}
 
--- the parts, one behind the other
+-- the parts, one after the other
 abbrev pub joined : List Text → Text
 joined [] = []
 joined (part ∷ parts) = part ++ joined parts

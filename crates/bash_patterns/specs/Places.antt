@@ -71,7 +71,7 @@ abbrev pub taken : ℕ → ℕ → (ℕ → List (ℕ × ℕ)) → List (ℕ × 
 taken place zero go = go 0
 taken place (suc n) go = (place, place + suc n) ∷ go n
 
--- the matches in a text that begins at a place, where so many bytes at its front are taken already
+-- the matches in a text that begins at a place, where so many of its first bytes are taken already
 unfoldable pub matches_after : (Text → Bool) → ℕ → ℕ → Text → List (ℕ × ℕ)
 matches_after m place k [] = []
 matches_after m place (suc k) (b ∷ t) = matches_after m (place + 1) k t

@@ -15,7 +15,7 @@ use Rattle.bash_patterns.specs.Symbols.{byte_of, role_of, symbols_of}
 
 -- ---- forms of several
 
--- one behind the other
+-- one after the other
 abbrev pub row_of : List Form → Form
 row_of [] = Empty
 row_of (f ∷ fs) = Both f (row_of fs)
@@ -38,7 +38,7 @@ grouped kind.NoneOf f = Not f
 abbrev pub plain : Symbol → Form
 plain s = Single (test.Byte (byte_of s))
 
--- the forms that a list begins with, and what stands behind them; no forms, where groups are nested too deep
+-- the forms that a list begins with, and what stands after them; no forms, where groups are nested too deep
 pub record First : Type 0 where
   pub forms : Option (List Form)
   pub rest : List Symbol
@@ -62,7 +62,7 @@ single role.Other s ss = record { forms = Some (plain s ∷ []); rest = ss }
 abbrev pub Groups : Type 0
 Groups = GroupKind → List (List Symbol) → Option Form
 
--- where a group never closes, its symbols and all behind them stand for themselves
+-- where a group never closes, its symbols and all after them stand for themselves
 abbrev pub as_group : Groups → GroupKind → Symbol → List Symbol → Option Parted → First
 as_group group kind s ss None = record { forms = Some (plain s ∷ map plain ss); rest = [] }
 as_group group kind s ss (Some p) = record { forms = option_map (λ f. f ∷ []) (group kind p.list); rest = p.rest }
@@ -87,7 +87,7 @@ joined_forms None more = None
 joined_forms (Some fs) None = None
 joined_forms (Some fs) (Some gs) = Some (fs ++ gs)
 
--- the forms from here on, behind so many symbols that are read already
+-- the forms from here on, after so many symbols that are read already
 unfoldable pub forms_from : Groups → Bool → ℕ → List Symbol → Option (List Form)
 forms_from group extended k [] = Some []
 forms_from group extended (suc k) (s ∷ ss) = forms_from group extended k ss

@@ -9,7 +9,7 @@ use crate::way::Way;
 use eb_bytes::Memory;
 use std::alloc::Global;
 
-/// What is left of a tree behind a byte, for a walk that comes to the tree's bytes this way.
+/// What is left of a tree after a byte, for a walk that comes to the tree's bytes this way.
 ///
 /// # Errors
 /// `Memory` where there is no room for it.
@@ -52,7 +52,7 @@ pub fn behind_node<'n>(
     }
 }
 
-// The same of two trees, one behind the other.
+// The same of two trees, one after the other.
 #[cycle(behind_node)]
 #[tactic(auto, using(crate::proofs::Derived::left_closed, crate::proofs::Derived::left_open, crate::proofs::Derived::met_empty), unfolding(crate::specs::Left::left_form, crate::specs::Form::form_of))]
 fn behind_both<'n>(
@@ -73,7 +73,7 @@ fn behind_both<'n>(
     either(alloc, both, second)
 }
 
-/// What is left behind a byte of what was left before it.
+/// What is left after a byte of what was left before it.
 ///
 /// # Errors
 /// `Memory` where there is no room for it.

@@ -10,28 +10,28 @@ use crate::symbol::{Role, Symbol, split_symbol};
 use eb_bytes::Memory;
 use std::alloc::Global;
 
-// A member of a bracket expression, and what stands behind it.
+// A member of a bracket expression, and what stands after it.
 #[derive(Clone, Copy)]
 struct MemberRead<'s> {
     member: Member,
     rest: &'s [Symbol],
 }
 
-// The members up to the closing bracket, and what stands behind it.
+// The members up to the closing bracket, and what stands after it.
 #[derive(Drop)]
 pub struct MembersRead<'s> {
     pub members: Members,
     pub rest: &'s [Symbol],
 }
 
-/// A bracket expression, and what stands behind it.
+/// A bracket expression, and what stands after it.
 #[derive(Drop)]
 pub struct BracketRead<'s> {
     pub bracket: Bracket,
     pub rest: &'s [Symbol],
 }
 
-// What stands behind so many symbols.
+// What stands after so many symbols.
 fn after(symbols: &[Symbol], count: usize) -> &[Symbol]
     ensures { result.now ≡ drop count symbols.now }
 {

@@ -40,7 +40,7 @@ impl Class {
         Class::Xdigit,
     ];
 
-    // How the class is written behind its opening bracket.
+    // How the class is written after its opening bracket.
     fn text(self) -> &'static [u8]
         ensures { result.now ≡ class_text self }
     {
@@ -73,14 +73,14 @@ impl Class {
         }
     }
 
-    /// The class that these symbols begin with, which stand behind an opening bracket.
+    /// The class that these symbols begin with, which stand after an opening bracket.
     pub fn at(symbols: &[Symbol]) -> Option<Class>
         ensures { result ≡ class_among all_classes symbols.now }
     {
         class_among(&Class::ALL, symbols)
     }
 
-    /// How many symbols stand behind the opening bracket of the class.
+    /// How many symbols stand after the opening bracket of the class.
     pub fn len(self) -> usize
         ensures { result ≡ length (class_text self) }
     {

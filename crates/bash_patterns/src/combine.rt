@@ -173,7 +173,7 @@ fn gather<'n>(alloc: Global, parts: &mut Vec<Left<'n>>, count: usize) -> Result<
     Ok(Left::Either(first, second))
 }
 
-/// What is left of one tree, and another behind it. Each alternative gets it behind itself, so that equal ones are
+/// What is left of one tree, and another after it. Each alternative gets it after itself, so that equal ones are
 /// seen.
 ///
 /// # Errors
@@ -194,7 +194,7 @@ pub fn then<'n>(alloc: Global, first: Left<'n>, second: &'n Node) -> Result<Left
     }
 }
 
-/// What is left of one tree, and another any number of times behind it. Each alternative gets it behind itself, so that
+/// What is left of one tree, and another any number of times after it. Each alternative gets it after itself, so that
 /// equal ones are seen.
 ///
 /// # Errors

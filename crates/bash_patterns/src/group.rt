@@ -23,7 +23,7 @@ pub enum GroupKind {
     NoneOf,
 }
 
-/// The kind of the group that this symbol and an opening parenthesis behind it begin, if they do.
+/// The kind of the group that this symbol and an opening parenthesis after it begin, if they do.
 pub fn group_kind(symbol: Symbol, behind: &[Symbol]) -> Option<GroupKind>
     ensures { result ≡ group_kind symbol behind.now }
 {
@@ -49,7 +49,7 @@ fn kind_of_byte(byte: u8) -> Option<GroupKind>
     }
 }
 
-/// The alternatives of a group, and what stands behind it.
+/// The alternatives of a group, and what stands after it.
 #[derive(Drop)]
 pub struct Alternatives<'s> {
     pub list: Vec<&'s [Symbol]>,

@@ -8,7 +8,7 @@ use std::alloc::Global;
 /// How trees are joined.
 #[derive(Clone, Copy, Debug, PartialEq, Eq)]
 pub enum Join {
-    /// One behind the other.
+    /// One after the other.
     Row,
     /// One or the other.
     Choice,

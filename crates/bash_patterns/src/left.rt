@@ -6,7 +6,7 @@ ghost use Rattle.bash_patterns.specs.Matching.{matches};
 
 use crate::node::Node;
 
-/// What is left of a tree behind the bytes that a walk has come past. What the walk has not come to yet is borrowed
+/// What is left of a tree after the bytes that a walk has passed. What the walk has not come to yet is borrowed
 /// from the tree.
 #[derive(Debug, Drop)]
 pub enum Left<'n> {
@@ -18,9 +18,9 @@ pub enum Left<'n> {
     Anything,
     /// A tree that the walk has not begun.
     Whole(&'n Node),
-    /// What is left of one tree, and another behind it.
+    /// What is left of one tree, and another after it.
     Then(Box<Left<'n>>, &'n Node),
-    /// What is left of one tree, and another any number of times behind it.
+    /// What is left of one tree, and another any number of times after it.
     Repeated(Box<Left<'n>>, &'n Node),
     /// One or the other.
     Either(Box<Left<'n>>, Box<Left<'n>>),

@@ -13,7 +13,7 @@ use std::cmp::Ordering;
 // An order of trees. Which comes first counts for nothing; only equal ones must be found, and never two that differ.
 
 impl<'n> Left<'n> {
-    /// The order of what is left. What is left of trees is compared before the trees behind them, which are larger.
+    /// The order of what is left. What is left of trees is compared before the trees after them, which are larger.
     #[tactic(auto, unfolding(crate::specs::Left::left_form))]
     pub fn compare(&self, other: &Left<'n>) -> Ordering
         ensures { result ≡ Equal → (way : Way) → left_form way self.now ≡ left_form way other.now }

@@ -53,7 +53,7 @@ impl Pattern {
         decide(self.alloc, &self.root, text)
     }
 
-    /// The place behind the shortest front of the text that the pattern matches.
+    /// Where the shortest prefix of the text ends that the pattern matches.
     ///
     /// # Errors
     /// `Memory` where there is no room for the walk.
@@ -64,7 +64,7 @@ impl Pattern {
         Ok(first_true(fronts.as_slice()))
     }
 
-    /// The place behind the longest front of the text that the pattern matches.
+    /// Where the longest prefix of the text ends that the pattern matches.
     ///
     /// # Errors
     /// `Memory` where there is no room for the walk.
@@ -75,7 +75,7 @@ impl Pattern {
         Ok(last_true(fronts.as_slice()))
     }
 
-    /// The place at which the shortest end of the text begins that the pattern matches.
+    /// Where the shortest suffix of the text begins that the pattern matches.
     ///
     /// # Errors
     /// `Memory` where there is no room for the walk.
@@ -86,7 +86,7 @@ impl Pattern {
         Ok(from_end(text, first_true(ends.as_slice())))
     }
 
-    /// The place at which the longest end of the text begins that the pattern matches.
+    /// Where the longest suffix of the text begins that the pattern matches.
     ///
     /// # Errors
     /// `Memory` where there is no room for the walk.

@@ -27,7 +27,7 @@ pub fn last_true(values: &[bool]) -> Option<usize>
     last
 }
 
-/// The value at a place; false behind the last.
+/// The value at a place; false after the last.
 pub fn value_at(values: &[bool], place: usize) -> bool
     ensures { result ≡ slice_index_or values.now place false }
 {

@@ -41,7 +41,7 @@ pub fn read(alloc: Global, symbols: &[Symbol], extended: bool, levels: u8) -> Re
     Ok(node)
 }
 
-// Puts at the end of a row the trees that begin with a symbol, and gives what stands behind them.
+// Puts at the end of a row the trees that begin with a symbol, and gives what stands after them.
 #[cycle(read)]
 fn read_first<'s>(
     alloc: Global,
@@ -139,7 +139,7 @@ fn push_all_plain(symbols: &[Symbol], row: &mut Vec<Node>) -> Result<(), Memory>
     Ok(())
 }
 
-// Puts at the end of a row the tree that a symbol begins which begins no group, and gives what stands behind it.
+// Puts at the end of a row the tree that a symbol begins which begins no group, and gives what stands after it.
 #[tactic(auto, unfolding(crate::specs::Joining::language, crate::specs::Joining::languages, crate::specs::Form::form_of, crate::specs::Matching::matches))]
 fn read_single<'s>(
     alloc: Global,

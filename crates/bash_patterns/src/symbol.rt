@@ -68,7 +68,7 @@ fn byte_role(byte: u8) -> Role
     }
 }
 
-/// The first of these symbols, and those behind it.
+/// The first of these symbols, and those after it.
 pub fn split_symbol(symbols: &[Symbol]) -> Option<(Symbol, &[Symbol])>
     ensures { MatchOption result (symbols.now ≡ []) (λ parts. symbols.now ≡ parts.0 ∷ parts.1.now) }
 {

@@ -22,7 +22,7 @@ impl<'n> Left<'n> {
         }
     }
 
-    // The same of two that have no alternatives. What is left is compared before the trees behind it, which are larger.
+    // The same of two that have no alternatives. What is left is compared before the trees after it, which are larger.
     #[cycle(within)]
     #[tactic(auto, using(crate::proofs::Combined::within_never, crate::proofs::Combined::within_all, crate::proofs::Combined::within_itself, crate::proofs::Combined::within_Choice, crate::proofs::Combined::within_first, crate::proofs::Combined::within_second, crate::proofs::Combined::within_Both, crate::proofs::Combined::within_Not), unfolding(crate::specs::Left::left_form))]
     fn is_part(&self, other: &Left<'n>) -> bool
