@@ -140,7 +140,7 @@ fn put_variables(names: &[Bytes], vars: &Vars, answer: &mut Answer) -> Result<()
             None => {}
             Some(Value::Text(text)) => put_variable(name, "=", text, answer)?,
             Some(Value::Array(elements)) => {
-                for (index, text) in elements.as_slice() {
+                for (index, text) in elements.iter() {
                     let index = format!(in answer.alloc(); "[{index}]=")?;
                     put_variable(name, index.as_str(), text, answer)?;
                 }

@@ -35,6 +35,7 @@
 //! | `matches EXTENDED MARKS TEXT` | `yes` or `no`, or `deep`; `EXTENDED` is 1 where groups are read, else 0 |
 //! | `match EXTENDED MARKS TEXT` | the same, then the shortest and the longest prefix and suffix and the first match |
 //! | `first EXTENDED MARKS TEXT FROM` | the first match from this place on, `BEGIN-END` or `none` |
+//! | `all EXTENDED MARKS TEXT` | all matches from left to right, `BEGIN-END` each, or `none` |
 //! | `vars CALL..` | what the calls answer, as the head of `data/variables.rows` says |
 //! | `arith TEXT [steps LIMIT] [GIVEN]..` | `ok N` or the fault, `steps N`, then each variable given or set |
 //! | `read LEVELS TEXT` | `ok` and the number of an expression's instructions, or the refusal's name |

@@ -87,6 +87,25 @@ pub fn first(fields: &[&[u8]], answer: &mut Answer) -> Result<(), Fault> {
     }
 }
 
+/// `all EXTENDED MARKS TEXT`: the places of all matches from left to right, or `none`; `deep` where the groups are nested
+/// too deep.
+pub fn all(fields: &[&[u8]], answer: &mut Answer) -> Result<(), Fault> {
+    let [extended, marks, text] = fields else {
+        return Err(Fault::NoRequest);
+    };
+    let asked = read_question(answer.alloc(), extended, marks, text)?;
+    let Some(pattern) = &asked.pattern else {
+        return answer.word("deep");
+    };
+    for (begin, end) in pattern.all_matches(asked.text.as_slice())? {
+        put_places(Some((begin, end)), answer)?;
+    }
+    if answer.is_empty() {
+        answer.word("none")?;
+    }
+    Ok(())
+}
+
 fn put_place(place: Option<usize>, answer: &mut Answer) -> Result<(), Fault> {
     match place {
         Some(place) => answer.number(place as u64),

@@ -5,7 +5,7 @@ use crate::eapis::{eapi, eclass, key, phase, phases};
 use crate::entries::entry;
 use crate::fault::Fault;
 use crate::names::{category, flag, names, package, paths};
-use crate::patterns::{first, match_pattern, matches};
+use crate::patterns::{all, first, match_pattern, matches};
 use crate::splits::split;
 use crate::text::read_texts;
 use crate::token::parts;
@@ -44,6 +44,7 @@ fn put_answer(line: &[u8], answer: &mut Answer) -> Result<(), Fault> {
         b"match" => match_pattern(fields, answer),
         b"matches" => matches(fields, answer),
         b"first" => first(fields, answer),
+        b"all" => all(fields, answer),
         b"vars" => vars(fields, answer),
         b"arith" => arith(fields, answer),
         b"read" => read(fields, answer),

@@ -72,8 +72,8 @@ fn difference(alloc: Global, line: &[u8]) -> Result<Option<String>, Memory> {
 
 // The request and the answer of a row.
 fn halves(line: &[u8]) -> Option<(&[u8], &[u8])> {
-    let (request, behind) = split_before(line, End::Text(b" => "));
-    Some((request, behind.strip_prefix(b" => ")?))
+    let (request, after) = split_before(line, End::Text(b" => "));
+    Some((request, after.strip_prefix(b" => ")?))
 }
 
 // An answer with its texts and marks in hexadecimal.
@@ -81,9 +81,9 @@ fn plain(alloc: Global, answer: &[u8]) -> Result<String, Fault> {
     let mut plain = String::new(alloc);
     let mut rest = answer;
     for _ in 0..=answer.len() {
-        let (part, behind) = split_before(rest, End::OneOf(b" ,=()"));
+        let (part, after) = split_before(rest, End::OneOf(b" ,=()"));
         push_plain(alloc, &mut plain, part)?;
-        let [joint, others @ ..] = behind else {
+        let [joint, others @ ..] = after else {
             break;
         };
         plain.push(char::from(*joint))?;

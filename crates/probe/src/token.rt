@@ -59,9 +59,9 @@ pub fn parts(alloc: Global, text: &[u8], joint: u8) -> Result<Vec<&[u8]>, Memory
     let mut parts = Vec::new(alloc);
     let mut rest = text;
     for _ in 0..=text.len() {
-        let (part, behind) = split_before(rest, End::OneOf(&[joint]));
+        let (part, after) = split_before(rest, End::OneOf(&[joint]));
         parts.push(part)?;
-        let [_, others @ ..] = behind else {
+        let [_, others @ ..] = after else {
             break;
         };
         rest = others;

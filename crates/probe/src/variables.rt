@@ -3,8 +3,8 @@ use crate::fault::Fault;
 use crate::place::{Place, read_place, refusal_word};
 use crate::text::read_text;
 use crate::token::{cut, parts};
-use eb_bytes::read_decimal;
-use shell_vars::{Attr, Elements, FrameKind, Value, VarErr, Vars};
+use eb_bytes::{Bytes, read_decimal};
+use shell_vars::{Attr, Binding, Elements, FrameKind, Value, VarErr, Vars, is_refused};
 use std::alloc::Global;
 
 /// `vars CALL..`: what a history of calls answers, `-` where it answers nothing. The calls stand at the head of
@@ -58,11 +58,20 @@ fn change(
     let made = match (call, place.subscript, value) {
         (b"set", None, value) => vars.set(name, value),
         (b"set", Some(subscript), Value::Text(text)) => vars.set_elem(name, subscript, text),
+        (b"assign", subscript, Value::Text(text)) => vars.assign(name, subscript, text),
         (b"set_global", None, value) => vars.set_global(name, value),
         (b"append", None, value) => vars.append(name, value),
         (b"local", None, value) => vars.local(name, Some(value)),
         (b"bind", None, value) if vars.is_prefix_open() => vars.bind(name, value),
         (b"bind", None, _) => return answer.word("closed"),
+        (b"with", Some(subscript), Value::Text(text)) => {
+            let made = Value::with_element(answer.alloc(), vars.get(name), subscript, text);
+            return value_or_refusal(made, answer);
+        }
+        (b"with", None, more) => {
+            let made = Value::with_appended(answer.alloc(), vars.get(name), more);
+            return value_or_refusal(made, answer);
+        }
         _ => return Err(Fault::NoRequest),
     };
     refused(made, answer)
@@ -74,6 +83,10 @@ fn ask(call: &[u8], place: Place<'_>, vars: &mut Vars, answer: &mut Answer) -> R
     match (call, place.subscript) {
         (b"get", None) => put_value(vars.get(name), answer),
         (b"global", None) => put_value(vars.global(name), answer),
+        (b"element", subscript) => element(vars.element(name, subscript), answer),
+        (b"index", Some(subscript)) => index(Value::index(vars.get(name), subscript), answer),
+        (b"binding", None) => binding(vars.local_binding(name), answer),
+        (b"refused", None) => answer.yes_or_no(is_refused(name)),
         (b"copy", None) => copy(vars.get(name), answer),
         (b"attr", None) => answer.word(attributes_word(vars.attr(name))),
         (b"local", None) => refused(vars.local(name, None), answer),
@@ -139,9 +152,41 @@ fn copy(value: Option<&Value>, answer: &mut Answer) -> Result<(), Fault> {
     }
 }
 
+fn value_or_refusal(made: Result<Value, VarErr>, answer: &mut Answer) -> Result<(), Fault> {
+    match made {
+        Ok(value) => put_value(Some(&value), answer),
+        Err(refusal) => answer.word(refusal_word(refusal)?),
+    }
+}
+
+fn element(found: Result<Option<&Bytes>, VarErr>, answer: &mut Answer) -> Result<(), Fault> {
+    match found {
+        Ok(Some(text)) => answer.text(text.as_slice()),
+        Ok(None) => answer.word("none"),
+        Err(refusal) => answer.word(refusal_word(refusal)?),
+    }
+}
+
+fn index(index: Option<u64>, answer: &mut Answer) -> Result<(), Fault> {
+    match index {
+        Some(index) => answer.number(index),
+        None => answer.word("none"),
+    }
+}
+
+fn binding(binding: Option<&Binding>, answer: &mut Answer) -> Result<(), Fault> {
+    match binding {
+        Some(binding) => {
+            put_value(binding.value.as_ref(), answer)?;
+            answer.word(attributes_word(binding.attr))
+        }
+        None => answer.word("unbound"),
+    }
+}
+
 fn put_elements(elements: &Elements, answer: &mut Answer) -> Result<(), Fault> {
     answer.word("(")?;
-    for (place, (index, text)) in elements.as_slice().iter().enumerate() {
+    for (place, (index, text)) in elements.iter().enumerate() {
         let joint = if place > 0 { "," } else { "" };
         let index = format!(in answer.alloc(); "{joint}{index}=")?;
         answer.push_word(index.as_str())?;
