@@ -110,11 +110,7 @@ fn read_first<F: Read>(alloc: Global, file: &mut F, most: u64) -> Result<Bytes, 
 ///
 /// # Errors
 /// `TooLarge` where there are more than `limit`; else as the source answers.
-pub fn read_all<S: Source>(
-    alloc: Global,
-    source: &mut S,
-    limit: usize,
-) -> Result<Bytes, TreeErr>
+pub fn read_all<S: Source>(alloc: Global, source: &mut S, limit: usize) -> Result<Bytes, TreeErr>
     ensures within { IfOk result (λ bytes. length bytes ≤ limit) }
     ensures bytes { (left : Text) → S.rest source.old ≡ Some left → ReadsAll result left limit }
     ensures cause { S.faults source.new ≡ counted (is_failed result) (S.faults source.old) }

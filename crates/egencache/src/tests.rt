@@ -96,7 +96,10 @@ fn ends_with_the_fault_that_came(rt: HostRuntime) -> Result<(), Fail> {
         ),
     ];
     for (line, faults, status, text) in rows {
-        assert!(rt; ends(rt.alloc(), line, faults, status, text)?, "{line:?} with {faults:?}");
+        assert!(rt;
+            ends(rt.alloc(), line, faults, status, text)?,
+            "{line:?} with {faults:?}"
+        );
     }
     Ok(())
 }

@@ -15,5 +15,5 @@ with_third_slash at rest end behind category name file e f g =
     let parts : slice_split is_slash at ≡ category ∷ name ∷ file ∷ slice_split is_slash behind = e ∙ ap (λ (ps : List Text). category ∷ ps) (f ∙ ap (λ (ps : List Text). name ∷ ps) g) in
     ap place_of_parts parts ∙ more_than_three category name file _ _ _ (has_part is_slash behind).parts
 
-pub returns-in-Some-split_slash-2 : goal.returns-in-Some-split_slash-2
-returns-in-Some-split_slash-2 c = sym (with_third_slash c.args.at.now c.in-Some.rest.now c.in-Some-split_slash.file.now c.in-Some-split_slash-2.field-0.1.now _ _ _ c.in-Some.ensures c.in-Some-split_slash.ensures c.in-Some-split_slash-2.ensures)
+pub returns-in-Some : goal.returns-in-Some
+returns-in-Some c = sym (with_third_slash c.args.at.now c.in_ok-category.rest.now c.in_ok-name.file.now c.in-Some.field-0.1.now _ _ _ c.in_ok-category.ensures c.in_ok-name.ensures c.in-Some.ensures)
