@@ -173,10 +173,10 @@ pub fetched_is : (ev : Text → Evaluation) (x : Text) (at : Option ℤ) (t : Op
 fetched_is ev x at t b s u h g bytes same k =
     let paid : record s { left = u.left } ≡ u = ap (λ y. record u { store = y }) (sym same) in
     let is : fetched ev x at s ≡ Changed s (ev b u) =
-        ap (λ y. if y then Faulted (e.Unsupported x) s else evaluated_text ev x (call.element x at s.store) s) h
-        ∙ answered_text ev x (call.element x at s.store) t s u.left g k
-        ∙ ap (λ y. Changed s (ev y (record s { left = u.left }))) (sym bytes)
-        ∙ ap (λ y. Changed s (ev b y)) paid
+    ap (λ y. if y then Faulted (e.Unsupported x) s else evaluated_text ev x (call.element x at s.store) s) h
+    ∙ answered_text ev x (call.element x at s.store) t s u.left g k
+    ∙ ap (λ y. Changed s (ev y (record s { left = u.left }))) (sym bytes)
+    ∙ ap (λ y. Changed s (ev b y)) paid
     in
     goes_on_as (fetched ev x at s) (Changed s (ev b u)) (ev b u) (same_goes_on (fetched ev x at s) (Changed s (ev b u)) is) (paid_goes_on (ev b u) s)
 

@@ -167,11 +167,7 @@ impl<'m, L: Ledger> Machine<'m, L> {
 
     // Takes a number, above its subscript, assigns it to the variable, and puts it.
     #[tactic(auto, using(crate::proofs::Executed::goes_on, crate::proofs::Executed::faults, crate::proofs::Executed::no_room))]
-    fn store(
-        &mut self,
-        variable: &VariableRef<'_>,
-        stack: &mut Stack,
-    ) -> Result<usize, ArithErr>
+    fn store(&mut self, variable: &VariableRef<'_>, stack: &mut Stack) -> Result<usize, ArithErr>
         ensures means { (n : ℕ) → m.Continues result (m.executed n (i.Store variable.now) stack.old (state_of self.old)) stack.new (state_of self.new) }
         ensures keeps { Keeps self.old self.new }
     {

@@ -61,7 +61,7 @@ value-returns-in-Err-clause-means g t c = value_fails (min c.args.variable.now.n
 pub value-returns-then-nesting_left-eq0-clause-means : goal.value-returns-then-nesting_left-eq0-clause-means
 value-returns-then-nesting_left-eq0-clause-means g t c =
     let on : m.GoesOn (fetched (m.text_of c.args.nesting_left c.args.variable.now) c.args.variable.now.name c.args.at (state_of c.args.self.now)) (m.text_of c.args.nesting_left c.args.variable.now c.in_ok-text.text (state_of c.pay.new.self)) =
-        fetched_is (m.text_of c.args.nesting_left c.args.variable.now) c.args.variable.now.name c.args.at (option_copied c.in-Ok.text) c.in_ok-text.text (state_of c.args.self.now) (state_of c.pay.new.self) (search rules) (search rules) (search rules) (search rules) (search rules)
+    fetched_is (m.text_of c.args.nesting_left c.args.variable.now) c.args.variable.now.name c.args.at (option_copied c.in-Ok.text) c.in_ok-text.text (state_of c.args.self.now) (state_of c.pay.new.self) (search rules) (search rules) (search rules) (search rules) (search rules)
     in
     on.ends ∙ ap last (closed_value (min c.args.variable.now.nesting_left c.args.nesting_left) c.in_ok-text.text (state_of c.pay.new.self) (search rules))
 
@@ -69,7 +69,7 @@ pub value-returns-clause-means : goal.value-returns-clause-means
 value-returns-clause-means g t c =
     let least = min c.args.variable.now.nesting_left c.args.nesting_left in
     let on : m.GoesOn (fetched (m.text_of c.args.nesting_left c.args.variable.now) c.args.variable.now.name c.args.at (state_of c.args.self.now)) (m.text_of c.args.nesting_left c.args.variable.now c.in_ok-text.text (state_of c.pay.new.self)) =
-        fetched_is (m.text_of c.args.nesting_left c.args.variable.now) c.args.variable.now.name c.args.at (option_copied c.in-Ok.text) c.in_ok-text.text (state_of c.args.self.now) (state_of c.pay.new.self) (search rules) (search rules) (search rules) (search rules) (search rules)
+    fetched_is (m.text_of c.args.nesting_left c.args.variable.now) c.args.variable.now.name c.args.at (option_copied c.in-Ok.text) c.in_ok-text.text (state_of c.args.self.now) (state_of c.pay.new.self) (search rules) (search rules) (search rules) (search rules) (search rules)
     in
     told c.evaluate.result _ _ (state_of c.evaluate.new.self) (goes_on_as _ _ _ on (same_goes_on _ _ (opened_value least (least - 1) c.in_ok-text.text (state_of c.pay.new.self) (search rules)))) (search rules)
 
