@@ -3,8 +3,8 @@
 
 Times patterns on texts of SIZE bytes and of twice that, as probe_times.py says: `match`, which makes eight walks over
 the text (one for `matches`, one for each of four searches, two for the first match, and what is left of it for the
-third); and a pattern of as many brackets that never close, on one of them. Ends with 1 where an answer is wrong, or
-where SIZE brackets take more than a second.
+third); `all`, all matches in one walk; and a pattern of as many brackets that never close, on one of them. Ends with 1
+where an answer is wrong, or where SIZE brackets, or all matches in SIZE bytes, take more than a second.
 """
 import sys
 
@@ -36,10 +36,26 @@ def searches(size):
         yield f"match {name} ({len(text)})", b" ".join((b"match", b"1", marks, hexadecimal(text))), answer
 
 
+def all_matches(size):
+    """The name of each case of `all`, its request, and the answer"""
+    texts = (
+        ("a*b", b"a*b", b"a" * size, b"none"),
+        (" ", b" ", b"a" * size, b"none"),
+        ("[!a-z]", b"[!a-z]", b"a" * size, b"none"),
+        ("a", b"a", b"b" * (size - 1) + b"a", f"{size - 1}-{size}".encode()),
+        ("?", b"?", b"a" * size, " ".join(f"{i}-{i + 1}" for i in range(size)).encode()),
+        ("@(ab|a)c", b"@(ab|a)c", b"ab" * (size // 2), b"none"),
+    )
+    for name, pattern, text, answer in texts:
+        marks = b",".join(b"L%02x" % byte for byte in pattern)
+        yield f"all {name} ({len(text)})", b" ".join((b"all", b"1", marks, hexadecimal(text))), answer
+
+
 def brackets(size):
     """The name of the case of brackets that never close, its request, and the answer"""
     yield "matches [[[..", b"matches 0 L" + b"5b" * size + b" 5b", b"no"
 
 
 if __name__ == "__main__":
-    sys.exit(time_requests(SIZE, searches, "bytes") | time_requests(SIZE, brackets, "bytes", LIMIT))
+    late = time_requests(SIZE, all_matches, "bytes", LIMIT) | time_requests(SIZE, brackets, "bytes", LIMIT)
+    sys.exit(time_requests(SIZE, searches, "bytes") | late)
