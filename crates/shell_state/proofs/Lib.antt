@@ -1,0 +1,3 @@
+pub mod Closed
+pub mod Sequencing
+pub mod Spent
