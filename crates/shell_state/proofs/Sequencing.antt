@@ -2,7 +2,8 @@
 use Rattle.std.proofs.Common.{◌≡◌, refl}
 use Rattle.shell_state.specs.Outcome.{Outcome, Ended, Faulted, Doing, and_then, ◌>>=◌, pure}
 
-pub associative : {A B C : Type 0} (r : Outcome A) (f : A → Doing B) (g : B → Doing C) → and_then (and_then r f) g ≡ and_then r (λ a. f a >>= g)
+pub associative : {A B C : Type 0} (r : Outcome A) (f : A → Doing B) (g : B → Doing C)
+    → and_then (and_then r f) g ≡ and_then r (λ a. f a >>= g)
 associative (Ended a at) f g = refl
 associative (Faulted fault left asked) f g = refl
 

@@ -31,7 +31,8 @@ adds_after m n at le (inl more) =
     enough n (record at { left = at.left - m }) more
     ∙ ap (λ k. Ended tt (record at { left = k })) (omega (arith, le, more))
     ∙ sym (enough (m + n) at (omega (arith, le, more)))
-adds_after m n at le (inr less) = short n (record at { left = at.left - m }) less ∙ sym (short (m + n) at (omega (arith, le, less)))
+adds_after m n at le (inr less) =
+    short n (record at { left = at.left - m }) less ∙ sym (short (m + n) at (omega (arith, le, less)))
 
 pub adds_up : (m n : ℕ) (at : State) → (spend m >> spend n) at ≡ spend (m + n) at
 adds_up m n at = by (at_most m at.left)
@@ -49,10 +50,12 @@ never_rises n at = by (at_most n at.left)
 
 -- ---- the steps of a budget
 
-left_after : (n : ℕ) (old new : Spending) → old.used + n ≤ old.limit → new ≡ record old { used = old.used + n } → left old - n ≡ left new
+left_after : (n : ℕ) (old new : Spending) → old.used + n ≤ old.limit → new ≡ record old { used = old.used + n }
+    → left old - n ≡ left new
 left_after n old new le e = subst (λ b. left old - n ≡ left b) (sym e) (omega (arith, le))
 
-pub was_left : (n : ℕ) (old new : Spending) (at : State) → old.used + n ≤ old.limit → new ≡ record old { used = old.used + n }
+pub was_left : (n : ℕ) (old new : Spending) (at : State)
+    → old.used + n ≤ old.limit → new ≡ record old { used = old.used + n }
     → at.left ≡ left old → spend n at ≡ Ended tt (record at { left = left new })
 was_left n old new at le e same =
     enough n at (subst (λ k. n ≤ k) (sym same) (omega (arith, le)))
@@ -61,7 +64,8 @@ was_left n old new at le e same =
 none_left : (old new : Spending) → new ≡ record old { used = old.limit } → 0 ≡ left new
 none_left old new e = subst (λ b. 0 ≡ left b) (sym e) (omega arith)
 
-pub was_not_left : (n : ℕ) (old new : Spending) (at : State) → old.used ≤ old.limit → old.limit < old.used + n → new ≡ record old { used = old.limit }
+pub was_not_left : (n : ℕ) (old new : Spending) (at : State)
+    → old.used ≤ old.limit → old.limit < old.used + n → new ≡ record old { used = old.limit }
     → at.left ≡ left old → spend n at ≡ Faulted fault.StepsSpent (left new) at.host.asked
 was_not_left n old new at within lt e same =
     short n at (subst (λ k. k < n) (sym same) (omega (arith, within, lt)))

@@ -8,7 +8,7 @@ use Rattle.shell_state.specs.declared.fault.Fault.{Fault}
 pub data Begun : Type 0 where
   -- it ends with a status, prints a text, and leaves a state
   Finished : (status : ℕ) → (output : Text) → State → Begun
-  -- it hands out a script of so many bytes, to be run in a state, and says what it does in the state at that script's end
+  -- it hands out a script of so many bytes, to be run in a state, and says what it does in the state at its end
   Sourced : (script : Items) → (bytes : ℕ) → State → (State → Begun) → Begun
   -- it is at fault, with the steps left and the names asked by then
   Refused : Fault → (left : ℕ) → (asked : List Text) → Begun

@@ -9,7 +9,9 @@ use Rattle.shell_state.specs.declared.opened.Opened.{Opened}
 
 -- it does not matter which two of three parts are put together first
 abbrev pub IsAssociative : (A B C : Type 0) → Type 0
-IsAssociative A B C = (p : Doing A) (f : A → Doing B) (g : B → Doing C) (at : State) → ((p >>= f) >>= g) at ≡ (p >>= (λ a. f a >>= g)) at
+IsAssociative A B C =
+    (p : Doing A) (f : A → Doing B) (g : B → Doing C) (at : State)
+    → ((p >>= f) >>= g) at ≡ (p >>= (λ a. f a >>= g)) at
 
 -- a part behind a value is the part with that value
 abbrev pub BeginsWithValue : (A B : Type 0) → Type 0
@@ -39,12 +41,17 @@ LessIsSpent = (n : ℕ) (at : State) → at.left < n → spend n at ≡ Faulted 
 abbrev pub WithinCloses : (A : Type 0) → Type 0
 WithinCloses A =
     (o : Opened) (p : Doing A) (at after : State) (a : A) → is_too_deep o at.opened ≡ false
-    → p (record at { opened = o ∷ at.opened }) ≡ Ended a after → within o p at ≡ Ended a (record after { opened = at.opened })
+    → p (record at { opened = o ∷ at.opened }) ≡ Ended a after
+    → within o p at ≡ Ended a (record after { opened = at.opened })
 
 -- where too much is open, the part does not begin
 abbrev pub WithinIsRefused : (A : Type 0) → Type 0
-WithinIsRefused A = (o : Opened) (p : Doing A) (at : State) → is_too_deep o at.opened ≡ true → within o p at ≡ Faulted fault.DepthLimit at.left at.host.asked
+WithinIsRefused A =
+    (o : Opened) (p : Doing A) (at : State) → is_too_deep o at.opened ≡ true
+    → within o p at ≡ Faulted fault.DepthLimit at.left at.host.asked
 
 -- whatever the part leaves open, behind it is open what was open before it
 abbrev pub WithinBringsBack : (A : Type 0) → Type 0
-WithinBringsBack A = (o : Opened) (p : Doing A) (at after : State) (a : A) → within o p at ≡ Ended a after → after.opened ≡ at.opened
+WithinBringsBack A =
+    (o : Opened) (p : Doing A) (at after : State) (a : A)
+    → within o p at ≡ Ended a after → after.opened ≡ at.opened

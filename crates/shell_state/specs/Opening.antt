@@ -29,7 +29,10 @@ is_too_deep o os = is_counted o && nat_le depth_limit (depth os)
 
 -- opens one more, inside all that is open
 unfoldable pub opens : Opened → Doing (Unit {0})
-opens o at = if is_too_deep o at.opened then refuse fault.DepthLimit at else Ended tt (record at { opened = o ∷ at.opened })
+opens o at =
+    if is_too_deep o at.opened
+    then refuse fault.DepthLimit at
+    else Ended tt (record at { opened = o ∷ at.opened })
 
 -- a part, behind which something of the state in which it began comes back; behind a fault nothing does
 abbrev pub bringing_back : {A : Type 0} → ((before after : State) → State) → Doing A → Doing A

@@ -1,9 +1,11 @@
 -- What is printed, and where it goes ("Redirections", "Command Substitution").
 use Rattle.std.specs.Prelude.{◌≡◌, ℕ, List, [], ◌++◌, Bool, true, false, ◌||◌, length, nat_le, slice_index_or, slice_set, if◌then◌else◌, Result, Ok, Err}
+use Rattle.eb_bytes.specs.Spending.{Spending}
 use Rattle.eb_bytes.specs.Text.{Text}
 use Rattle.shell_vars.specs.Value.{is_short}
-use Rattle.shell_state.specs.Outcome.{Doing, Ended, ◌>>◌, refuse}
-use Rattle.shell_state.specs.Spending.{spend, text_cost}
+use Rattle.shell_state.specs.State.{State}
+use Rattle.shell_state.specs.Outcome.{Doing, Ended, ◌>>◌, refuse, Tells}
+use Rattle.shell_state.specs.Spending.{left, spend, text_cost}
 use Rattle.shell_state.specs.declared.fault.Fault.TheVariants as fault
 use Rattle.shell_state.specs.declared.io.Io.{Io}
 use Rattle.shell_state.specs.declared.io.Target.{Target}
@@ -35,7 +37,8 @@ may_put (Capture i) t io = may_capture i t io.captures
 
 -- puts a text where an output goes
 abbrev pub puts : Target → Text → Doing (Unit {0})
-puts target t = λ at. if may_put target t at.io then Ended tt (record at { io = put target t at.io }) else refuse fault.ValueSize at
+puts target t = λ at.
+    if may_put target t at.io then Ended tt (record at { io = put target t at.io }) else refuse fault.ValueSize at
 
 -- prints a text, which is paid first, also where it goes nowhere
 abbrev pub prints : Text → Doing (Unit {0})
@@ -47,3 +50,10 @@ Puts (Ok done) may with old new = (may ≡ true) × (new ≡ with)
 Puts (Err (stop.Fault why)) may with old new = (may ≡ false) × (why ≡ fault.ValueSize) × (new ≡ old)
 Puts (Err stop.Failed) may with old new = ⊥
 Puts (Err stop.Memory) may with old new = new ≡ old
+
+-- an answer of a call that prints is the one of `prints` in a state that has its outputs and its budget, whatever else
+-- that state has
+abbrev pub Prints : Result (Unit {0}) Stop → Text → (old new : Io) → (before after : Spending) → Type 0
+Prints result t old new before after =
+    (at : State) → at.io ≡ old → at.left ≡ left before
+    → Tells result (prints t at) (record at { io = new; left = left after })

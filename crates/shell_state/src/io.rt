@@ -1,8 +1,5 @@
 ghost use Rattle.std.specs.Prelude.{◌≡◌, ◌≢◌, ◌+◌, ◌≤◌, [], Err, OnErr};
-ghost use Rattle.shell_state.specs.Outcome.{Tells};
-ghost use Rattle.shell_state.specs.Output.{may_put, prints, put, Puts};
-ghost use Rattle.shell_state.specs.Spending.{left};
-ghost use Rattle.shell_state.specs.State.{State};
+ghost use Rattle.shell_state.specs.Output.{may_put, put, Prints, Puts};
 
 use crate::captures::Captures;
 use crate::spending::{spend, text_cost};
@@ -75,7 +72,7 @@ impl Io {
         budget: &mut Budget,
         steps: &mut Steps<L>,
     ) -> Result<(), Stop>
-        ensures means { (at : State) → at.io ≡ self.old → at.left ≡ left budget.old → Tells result (prints text.now at) (record at { io = self.new; left = left budget.new }) }
+        ensures means { Prints result text.now self.old self.new budget.old budget.new }
         ensures err { OnErr result (self.new ≡ self.old) }
         ensures no_file { result ≢ Err Stop.Failed }
         ensures limit { budget.new.limit ≡ budget.old.limit }

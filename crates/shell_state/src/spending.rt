@@ -1,8 +1,6 @@
 ghost use Rattle.std.specs.Prelude.{◌≡◌, ◌+◌, ◌≤◌, IsOkUnless};
 ghost use Rattle.shell_state.specs.declared.fault.Fault.TheVariants as fault;
-ghost use Rattle.shell_state.specs.Outcome.{Tells};
-ghost use Rattle.shell_state.specs.Spending.{left, spend as spends, text_cost as cost_of};
-ghost use Rattle.shell_state.specs.State.{State};
+ghost use Rattle.shell_state.specs.Spending.{text_cost as cost_of, Spends};
 
 use crate::fault::Fault;
 use crate::stop::Stop;
@@ -15,7 +13,7 @@ use std::sync::ledger::Ledger;
 /// `StepsSpent` where so many are not left; all are spent then.
 #[tactic(auto, using(crate::proofs::Spent::was_left, crate::proofs::Spent::was_not_left))]
 pub fn spend<L: Ledger>(count: u64, budget: &mut Budget, steps: &mut Steps<L>) -> Result<(), Stop>
-    ensures means { (at : State) → at.left ≡ left budget.old → Tells result (spends count at) (record at { left = left budget.new }) }
+    ensures means { Spends result count budget.old budget.new }
     ensures only_spent { IsOkUnless result (Stop.Fault fault.StepsSpent) }
     ensures limit { budget.new.limit ≡ budget.old.limit }
     ensures used { budget.old.used ≤ budget.new.used }
