@@ -1,0 +1,4 @@
+pub mod Closed
+pub mod Kept
+pub mod Sequencing
+pub mod Spent

@@ -1,0 +1,10 @@
+pub mod Faults
+pub mod Fields
+pub mod Host
+pub mod Laws
+pub mod Opening
+pub mod Outcome
+pub mod Output
+pub mod Spending
+pub mod State
+pub mod Stops
