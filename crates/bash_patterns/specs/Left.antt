@@ -1,6 +1,6 @@
 -- What is left of a pattern after the bytes that a walk has passed: its derivatives (Brzozowski, "Derivatives of
 -- regular expressions", 1964).
-use Rattle.std.specs.Prelude.{◌≡◌, ℕ, Bool, true, List, ◌∷◌, ◌++◌, map, reverse}
+use Rattle.std.specs.Prelude.{◌≡◌, ℕ, ◌-◌, Bool, true, List, ◌∷◌, ◌++◌, length, map, reverse, Option, Some, None, slice_get}
 use Rattle.eb_bytes.specs.Text.{Text}
 use Rattle.bash_patterns.specs.declared.left.Left.{Left}
 use Rattle.bash_patterns.specs.declared.left.Left.TheVariants as left
@@ -34,6 +34,15 @@ any_form w ls = choice_of (map (left_form w) ls)
 -- the same of two lists
 abbrev pub both_form : Way → List Left → List Left → Form
 both_form w ls ms = Choice (any_form w ls) (any_form w ms)
+
+-- the last of them
+abbrev pub last_of : List Left → Option Left
+last_of ls = slice_get ls (length ls - 1)
+
+-- both are there, and have the same form
+abbrev pub IsSameLast : Option Left → Option Left → Type 0
+IsSameLast (Some l) (Some m) = (w : Way) → left_form w l ≡ left_form w m
+IsSameLast _ _ = ⊥
 
 -- the second form matches exactly what the first matches after this byte
 pub record IsBehind (b : ℕ) (p q : Form) : Type 0 where
