@@ -1,7 +1,9 @@
 -- What is left of a pattern after the bytes that a walk has passed: its derivatives (Brzozowski, "Derivatives of
 -- regular expressions", 1964).
-use Rattle.std.specs.Prelude.{◌≡◌, ℕ, ◌-◌, Bool, true, List, ◌∷◌, ◌++◌, length, map, reverse, Option, Some, None, slice_get}
+use Rattle.std.specs.Prelude.{◌≡◌, ℕ, ◌-◌, Bool, true, List, ◌∷◌, ◌++◌, length, map, reverse, Option, Some, slice_get}
 use Rattle.eb_bytes.specs.Text.{Text}
+use Rattle.bash_patterns.specs.declared.combine.Next.{Next}
+use Rattle.bash_patterns.specs.declared.combine.Next.TheVariants as next
 use Rattle.bash_patterns.specs.declared.left.Left.{Left}
 use Rattle.bash_patterns.specs.declared.left.Left.TheVariants as left
 use Rattle.bash_patterns.specs.declared.way.Way.{Way}
@@ -26,6 +28,11 @@ left_form w (left.Then' a p n) = Both (left_form w p) (met w (form_of n.now))
 left_form w (left.Repeated' a p n) = Both (left_form w p) (AnyTimes (met w (form_of n.now)))
 left_form w (left.Either' a p b q) = Choice (left_form w p) (left_form w q)
 left_form w (left.NoneOf' a p) = Not (left_form w p)
+
+-- the form of a tree that comes next
+abbrev pub next_form : Way → Next → Form
+next_form w (next.Once n) = met w (form_of n.now)
+next_form w (next.AnyTimes n) = AnyTimes (met w (form_of n.now))
 
 -- the form of one or another of what is left
 unfoldable pub any_form : Way → List Left → Form

@@ -1,8 +1,8 @@
 ghost use Rattle.std.specs.Prelude.{◌≡◌, ◌+◌, ◌-◌, ◌<◌, ◌≤◌, true, [], length, OnOk, IfOk, IfNone, IfSome};
 ghost use Rattle.std.specs.declared.cmp.Ordering.TheVariants.{Equal, Greater, Less};
 ghost use Rattle.bash_patterns.specs.declared.way.Way.{Way};
-ghost use Rattle.bash_patterns.specs.Form.{AnyTimes, Both, Choice, Not, form_of};
-ghost use Rattle.bash_patterns.specs.Left.{IsSame, IsSameLast, IsWithin, any_form, both_form, last_of, left_form, met};
+ghost use Rattle.bash_patterns.specs.Form.{Both, Choice, Not};
+ghost use Rattle.bash_patterns.specs.Left.{IsSame, IsSameLast, IsWithin, any_form, both_form, last_of, left_form, next_form};
 
 use crate::left::Left;
 use crate::node::Node;
@@ -203,44 +203,44 @@ fn gather<'n>(alloc: Global, parts: &mut Vec<Left<'n>>, count: usize) -> Result<
     both(alloc, first, second)
 }
 
+/// A tree that comes after what is left: once, or any number of times.
+#[derive(Clone, Copy)]
+pub enum Next<'n> {
+    Once(&'n Node),
+    AnyTimes(&'n Node),
+}
+
 /// What is left of one tree, and another after it. Each alternative gets it after itself, so that equal ones are
 /// seen.
 ///
 /// # Errors
 /// `Memory` where there is no room for it.
-#[tactic(auto, using(crate::proofs::Combined::same_never, crate::proofs::Combined::same_Empty, crate::proofs::Combined::same_Both, crate::proofs::Combined::same_itself), unfolding(crate::specs::Left::left_form))]
-pub fn then<'n>(alloc: Global, first: Left<'n>, second: &'n Node) -> Result<Left<'n>, Memory>
-    ensures { IfOk result (λ left. (way : Way) → IsSame (left_form way left) (Both (left_form way first.entry) (met way (form_of second.now)))) }
+#[tactic(auto, using(crate::proofs::Combined::same_never, crate::proofs::Combined::same_Both), unfolding(crate::specs::Left::left_form))]
+pub fn then<'n>(alloc: Global, first: Left<'n>, next: Next<'n>) -> Result<Left<'n>, Memory>
+    ensures { IfOk result (λ left. (way : Way) → IsSame (left_form way left) (Both (left_form way first.entry) (next_form way next.entry))) }
 {
     match first {
         Left::Never => Ok(Left::Never),
-        Left::Nothing => Ok(Left::Whole(second)),
         Left::Either(near, far) => {
-            let near = then(alloc, Box::into_inner(near), second)?;
-            let far = then(alloc, Box::into_inner(far), second)?;
+            let near = then(alloc, Box::into_inner(near), next)?;
+            let far = then(alloc, Box::into_inner(far), next)?;
             either(alloc, near, far)
         }
-        _ => Ok(Left::Then(Box::new(alloc, first)?, second)),
+        _ => before(alloc, first, next),
     }
 }
 
-/// What is left of one tree, and another any number of times after it. Each alternative gets it after itself, so that
-/// equal ones are seen.
-///
-/// # Errors
-/// `Memory` where there is no room for it.
-#[tactic(auto, using(crate::proofs::Combined::same_never, crate::proofs::Combined::same_Both, crate::proofs::Combined::same_itself), unfolding(crate::specs::Left::left_form))]
-pub fn repeated<'n>(alloc: Global, first: Left<'n>, node: &'n Node) -> Result<Left<'n>, Memory>
-    ensures { IfOk result (λ left. (way : Way) → IsSame (left_form way left) (Both (left_form way first.entry) (AnyTimes (met way (form_of node.now))))) }
+// The same of what is one alternative.
+#[tactic(auto, using(crate::proofs::Combined::same_Empty, crate::proofs::Combined::same_itself), unfolding(crate::specs::Left::left_form))]
+fn before<'n>(alloc: Global, first: Left<'n>, next: Next<'n>) -> Result<Left<'n>, Memory>
+    ensures { IfOk result (λ left. (way : Way) → IsSame (left_form way left) (Both (left_form way first.entry) (next_form way next.entry))) }
 {
-    match first {
-        Left::Never => Ok(Left::Never),
-        Left::Either(near, far) => {
-            let near = repeated(alloc, Box::into_inner(near), node)?;
-            let far = repeated(alloc, Box::into_inner(far), node)?;
-            either(alloc, near, far)
-        }
-        _ => Ok(Left::Repeated(Box::new(alloc, first)?, node)),
+    match next {
+        Next::Once(node) => match first {
+            Left::Nothing => Ok(Left::Whole(node)),
+            _ => Ok(Left::Then(Box::new(alloc, first)?, node)),
+        },
+        Next::AnyTimes(node) => Ok(Left::Repeated(Box::new(alloc, first)?, node)),
     }
 }
 
