@@ -1,11 +1,13 @@
 -- Lists of alternatives: parts put at their end, taken from there, and merged.
-use Rattle.std.proofs.Common.{◌≡◌, Bool, true, false, ◌||◌, ◌≤◌, List, [], ◌∷◌, ◌++◌, ◌-◌, drop, get_or, length, take, refl, ap, subst, sym, ◌∙◌, append-nil, arith}
+use Rattle.std.proofs.Common.{◌≡◌, Bool, true, false, ◌||◌, ◌<◌, ◌≤◌, List, [], ◌∷◌, ◌++◌, ◌-◌, drop, get_or, length, take, Option, Some, None, slice_get, refl, ap, subst, sym, ◌∙◌, arith, length-append}
+use Rattle.std.proofs.Math.Seq.{get_or-append_seam}
 use Rattle.std.proofs.lemmas.List.{take_all}
+use Rattle.std.proofs.lemmas.Option.{slice_get-get_or}
 use Rattle.eb_bytes.specs.Text.{Text}
 use Rattle.bash_patterns.specs.declared.left.Left.{Left}
 use Rattle.bash_patterns.specs.declared.way.Way.{Way}
 use Rattle.bash_patterns.specs.Form.{Form, Whatever, Choice, Not}
-use Rattle.bash_patterns.specs.Left.{IsSame, IsWithin, any_form, both_form, left_form}
+use Rattle.bash_patterns.specs.Left.{IsSame, IsSameLast, IsWithin, any_form, both_form, last_of, left_form}
 use Rattle.bash_patterns.specs.Matching.{matches}
 use Rattle.bash_patterns.proofs.Combined.{within_first, within_second}
 use Rattle.bash_patterns.proofs.Cuts.{or-false, or-or}
@@ -39,10 +41,10 @@ unfolding matches
 any_popped w ls ms l e =
     record { each = λ t. ap (λ v. matches (any_form w v) t) e ∙ any-pushed w ms l t ∙ or-turned (matches (any_form w ms) t) (matches (left_form w l) t) }
 
-pub same_gathered : (p q r s u : Form) → IsSame u (Choice q s) → IsSame s (Choice p r) → IsSame u (Choice (Choice p q) r)
+pub same_gathered : (p q r s u v : Form) → IsSame u (Choice q s) → IsSame s (Choice p r) → IsSame v (Choice p q) → IsSame u (Choice v r)
 unfolding matches
-same_gathered p q r s u h l =
-    record { each = λ t. h.each t ∙ ap (λ v. matches q t || v) (l.each t) ∙ on (matches p t) (matches q t) (matches r t) }
+same_gathered p q r s u v h l k =
+    record { each = λ t. h.each t ∙ ap (λ x. matches q t || x) (l.each t) ∙ on (matches p t) (matches q t) (matches r t) ∙ ap (λ x. x || matches r t) (sym (k.each t)) }
   where
     on : (x y z : Bool) → (y || (x || z)) ≡ ((x || y) || z)
     on true true z = refl
@@ -51,9 +53,38 @@ same_gathered p q r s u h l =
 
 -- ---- taken from one of two
 
-pub taken_twice : (w : Way) (ls ms ls' ms' : List Left) (l m : Left) → ls ≡ ls' ++ l ∷ [] → ms ≡ ms' ++ m ∷ [] → left_form w l ≡ left_form w m → IsSame (both_form w ls ms) (Choice (left_form w l) (both_form w ls' ms'))
+last-pushed : (ls : List Left) (l : Left) → last_of (ls ++ l ∷ []) ≡ Some l
+last-pushed ls l =
+    let long : length (ls ++ l ∷ []) - 1 ≡ length ls = omega (arith, length-append ls (l ∷ [])) in
+    let within : length ls < length (ls ++ l ∷ []) = omega (arith, length-append ls (l ∷ [])) in
+    ap (slice_get (ls ++ l ∷ [])) long ∙ slice_get-get_or (ls ++ l ∷ []) (length ls) l within ∙ ap Some (get_or-append_seam ls l [] l)
+
+pub last_some : (ls : List Left) (l : Left) → slice_get ls (length ls - 1) ≡ Some l → 1 ≤ length ls
+last_some [] l e = absurd (let never : None ≡ Some l = e in cc)
+last_some (m ∷ ls) l e = omega arith
+
+same-last : (o : Option Left) → IsSameLast None o → ⊥
+same-last None h = h
+same-last (Some m) h = h
+
+pub same_last_first : (ls ms : List Left) → IsSameLast (last_of ls) (last_of ms) → 1 ≤ length ls
+same_last_first [] ms h = absurd (same-last (last_of ms) h)
+same_last_first (l ∷ ls) ms h = omega arith
+
+pub same_last_second : (ls ms : List Left) → IsSameLast (last_of ls) (last_of ms) → 1 ≤ length ms
+same_last_second ls [] h = absurd (on (last_of ls) h)
+  where
+    on : (o : Option Left) → IsSameLast o None → ⊥
+    on None g = g
+    on (Some l) g = g
+same_last_second ls (m ∷ ms) h = omega arith
+
+pub taken_twice : (w : Way) (ls ms ls' ms' : List Left) (l m : Left) → ls ≡ ls' ++ l ∷ [] → ms ≡ ms' ++ m ∷ [] → IsSameLast (last_of ls) (last_of ms) → IsSame (both_form w ls ms) (Choice (left_form w l) (both_form w ls' ms'))
 unfolding matches
-taken_twice w ls ms ls' ms' l m d e f =
+taken_twice w ls ms ls' ms' l m d e h =
+    let P : Option Left → Type 0 = λ o. IsSameLast o (last_of ms) in
+    let Q : Option Left → Type 0 = λ o. IsSameLast (Some l) o in
+    let f : left_form w l ≡ left_form w m = subst Q (ap last_of e ∙ last-pushed ms' m) (subst P (ap last_of d ∙ last-pushed ls' l) h) w in
     record { each = λ t. ap (λ v. v || matches (any_form w ms) t) ((any_popped w ls ls' l d).each t) ∙ ap (λ v. (matches (left_form w l) t || matches (any_form w ls') t) || v) ((any_popped w ms ms' m e).each t ∙ ap (λ v. matches v t || matches (any_form w ms') t) (sym f)) ∙ on (matches (left_form w l) t) (matches (any_form w ls') t) (matches (any_form w ms') t) }
   where
     on : (x y z : Bool) → ((x || y) || (x || z)) ≡ (x || (y || z))
@@ -74,14 +105,6 @@ taken_second w ls ms ms' m e =
     on true true z = refl
     on true false z = refl
     on false y z = refl
-
-pub taken_alone : (w : Way) (ls ms ls' ms' : List Left) (l : Left) → ls ≡ ls' ++ l ∷ [] → ms ≡ ms' ++ [] → IsSame (both_form w ls ms) (Choice (left_form w l) (both_form w ls' ms'))
-taken_alone w ls ms ls' ms' l d e =
-    record { each = λ t. (taken_first w ls ms ls' l d).each t ∙ ap (λ v. matches (Choice (left_form w l) (both_form w ls' v)) t) (e ∙ append-nil ms') }
-
-pub taken_other : (w : Way) (ls ms ls' ms' : List Left) (m : Left) → ls ≡ ls' ++ [] → ms ≡ ms' ++ m ∷ [] → IsSame (both_form w ls ms) (Choice (left_form w m) (both_form w ls' ms'))
-taken_other w ls ms ls' ms' m d e =
-    record { each = λ t. (taken_second w ls ms ms' m e).each t ∙ ap (λ v. matches (Choice (left_form w m) (both_form w v ms')) t) (d ∙ append-nil ls') }
 
 pub taken_none : (w : Way) (ls ms : List Left) → length ls ≡ 0 → length ms ≡ 0 → IsSame (both_form w ls ms) (any_form w [])
 unfolding any_form matches

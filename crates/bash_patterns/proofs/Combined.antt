@@ -29,9 +29,9 @@ same_first p q h = record { each = λ t. on (matches p t) (matches q t) (h.each 
     on false true f = f refl
     on false false f = refl
 
-pub same_turned : (p q : Form) → IsSame (Choice q p) (Choice p q)
+pub same_swapped : (r p q : Form) → IsSame r (Choice q p) → IsSame r (Choice p q)
 unfolding matches
-same_turned p q = record { each = λ t. or-turned (matches q t) (matches p t) }
+same_swapped r p q h = record { each = λ t. h.each t ∙ or-turned (matches q t) (matches p t) }
 
 -- nothing matches the first, or any text the second
 

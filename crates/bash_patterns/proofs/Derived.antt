@@ -140,7 +140,3 @@ left_Empty b = record { each = λ t. refl }
 pub left_Whatever : (b : ℕ) → IsBehind b Whatever Whatever
 unfolding matches
 left_Whatever b = record { each = λ t. refl }
-
--- a form of which some is left, and a form any number of times after it
-pub left_Repeated : (b : ℕ) (p p' q q' r s u : Form) → IsBehind b p p' → IsSame r (Both p' (AnyTimes q)) → matches p [] ≡ true → IsBehind b q q' → IsSame s (Both q' (AnyTimes q)) → IsSame u (Choice r s) → IsBehind b (Both p (AnyTimes q)) u
-left_Repeated b p p' q q' r s u h i e k j l = left_open b p p' (AnyTimes q) s r u h i e (left_AnyTimes b q q' s k j) l

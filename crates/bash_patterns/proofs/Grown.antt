@@ -2,12 +2,11 @@
 use Rattle.std.proofs.Common.{◌≡◌, ℕ, ◌+◌, ◌-◌, ◌<◌, Bool, true, ◌&&◌, List, [], ◌∷◌, ◌++◌, map, length, drop, Option, Some, None, refl, ap, subst, sym, ◌∙◌, arith, length-drop}
 use Rattle.std.proofs.lemmas.List.{append-nil, drop_all}
 use Rattle.eb_bytes.specs.Text.{Text}
-use Rattle.bash_patterns.specs.declared.node.Node.{Node}
 use Rattle.bash_patterns.specs.declared.way.Way.{Way}
 use Rattle.bash_patterns.specs.declared.way.Way.TheVariants.{Backward, Forward}
 use Rattle.bash_patterns.specs.declared.way.Goal.{Goal}
 use Rattle.bash_patterns.specs.declared.way.Goal.TheVariants.{End}
-use Rattle.bash_patterns.specs.Form.{Form, Empty, Single, Whatever, Both, Choice, AtMostOnce, AnyTimes, OnceOrMore, Not, form_of}
+use Rattle.bash_patterns.specs.Form.{Form, Empty, Single, Whatever, Both, Choice, AtMostOnce, AnyTimes, OnceOrMore, Not}
 use Rattle.bash_patterns.specs.Facing.{facing_form, first_byte, grown, holds}
 use Rattle.bash_patterns.specs.Kept.{before, kept, starts}
 use Rattle.bash_patterns.specs.Matching.{matches}
@@ -75,9 +74,6 @@ pub record IsAsked (h : Option ℕ → Bool) (p : Form) (goal : Goal) (k : Text 
 
 one_more : (a c : List Bool) (x y : Bool) → a ≡ c → x ≡ y → a ++ x ∷ [] ≡ c ++ y ∷ []
 one_more a c x y e f = cc
-
-pub same_form : (w v : Way) (m n : Node) → w ≡ v → m ≡ n → facing_form w (form_of m) ≡ facing_form v (form_of n)
-same_form w v m n e f = cc
 
 pub walk_begun : (h : Option ℕ → Bool) (p q : Form) (goal : Goal) (k : Text → Bool) (v : Text) (n : ℕ) (after end : Option ℕ) (held held' : List (Option ℕ)) (values values' : List Bool) (x : Bool) → IsAsked h p goal k → length v ≡ n → q ≡ p → after ≡ end_of goal 0 → held ≡ [] → values ≡ [] → end ≡ (step ends q true None held after).value → held' ≡ (step ends q true None held after).kept → x ≡ h end → values' ≡ values ++ x ∷ [] → IsAt h p k (drop (n - 0) v) held' values'
 unfolding before grown

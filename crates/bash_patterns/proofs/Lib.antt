@@ -3,6 +3,7 @@ pub mod Combined
 pub mod Cuts
 pub mod Derived
 pub mod Faced
+pub mod FacedTrees
 pub mod Followed
 pub mod Found
 pub mod Gathered

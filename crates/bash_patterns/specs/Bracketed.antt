@@ -1,5 +1,6 @@
 -- How a bracket expression is read (Bash Reference Manual, "Pattern Matching").
-use Rattle.std.specs.Prelude.{ℕ, zero, suc, Bool, true, false, ◌==◌, ◌&&◌, ◌||◌, List, [], ◌∷◌, length, Option, Some, None, codes, if◌then◌else◌}
+use Rattle.std.specs.Prelude.{ℕ, zero, suc, Bool, true, false, ◌==◌, ◌&&◌, ◌||◌, List, [], ◌∷◌, ◌++◌, drop, length, Option, Some, None, codes, if◌then◌else◌}
+use Rattle.std.specs.Option.{is_none}
 use Rattle.eb_bytes.specs.Text.{Text}
 use Rattle.bash_patterns.specs.declared.class.Class.{Class}
 use Rattle.bash_patterns.specs.declared.class.Class.TheVariants.{Alnum, Alpha, Blank, Cntrl, Digit, Graph, Lower, Print, Punct, Space, Upper, Xdigit}
@@ -87,13 +88,10 @@ abbrev pub closes : Bool → Role → Bool
 closes false role.BracketClosing = true
 closes _ _ = false
 
--- `[` and `]` that are not quoted
+-- `[` that is not quoted
 abbrev pub is_opening : Symbol → Bool
 is_opening (Unquoted b) = b == 91
 is_opening (Quoted b) = false
-
-abbrev pub is_closing : Symbol → Bool
-is_closing s = closes false (role_of s)
 
 -- the members from here on, after so many symbols that are taken already; none, where no bracket closes them
 unfoldable pub members_from : Bool → ℕ → List Symbol → Option Closed
@@ -102,6 +100,15 @@ members_from first (suc k) (s ∷ ss) = members_from false k ss
 members_from first zero (s ∷ ss) =
     if closes first (role_of s) then Some (record { members = []; rest = ss })
     else with_member (member_at s ss).member (members_from false (member_at s ss).more ss)
+
+-- whether no bracket closes whose members go on with these symbols
+unfoldable pub is_open : List Symbol → Bool
+is_open ss = is_none (members_from false 0 ss)
+
+-- the same of each end of the symbols, the shortest first
+unfoldable pub open_ends : List Symbol → List Bool
+open_ends [] = is_open [] ∷ []
+open_ends (s ∷ ss) = open_ends ss ++ is_open (s ∷ ss) ∷ []
 
 pub record Read : Type 0 where
   pub bracket : Bracket
@@ -114,6 +121,10 @@ as_bracket negated (Some c) = Some (record { bracket = record { negated = negate
 abbrev pub negates : List Symbol → Bool
 negates (Unquoted b ∷ ss) = b == 33 || b == 94
 negates _ = false
+
+-- the symbols that members begin with after an opening bracket
+abbrev pub inside : List Symbol → List Symbol
+inside ss = if negates ss then drop 1 ss else ss
 
 -- the bracket expression whose opening bracket stands before these symbols, and what stands after it
 unfoldable pub bracket_at : List Symbol → Option Read

@@ -1,7 +1,9 @@
 -- What is left of a pattern after the bytes that a walk has passed: its derivatives (Brzozowski, "Derivatives of
 -- regular expressions", 1964).
-use Rattle.std.specs.Prelude.{◌≡◌, ℕ, Bool, true, List, ◌∷◌, ◌++◌, map, reverse}
+use Rattle.std.specs.Prelude.{◌≡◌, ℕ, ◌-◌, Bool, true, List, ◌∷◌, ◌++◌, length, map, reverse, Option, Some, slice_get}
 use Rattle.eb_bytes.specs.Text.{Text}
+use Rattle.bash_patterns.specs.declared.combine.Next.{Next}
+use Rattle.bash_patterns.specs.declared.combine.Next.TheVariants as next
 use Rattle.bash_patterns.specs.declared.left.Left.{Left}
 use Rattle.bash_patterns.specs.declared.left.Left.TheVariants as left
 use Rattle.bash_patterns.specs.declared.way.Way.{Way}
@@ -27,6 +29,11 @@ left_form w (left.Repeated' a p n) = Both (left_form w p) (AnyTimes (met w (form
 left_form w (left.Either' a p b q) = Choice (left_form w p) (left_form w q)
 left_form w (left.NoneOf' a p) = Not (left_form w p)
 
+-- the form of a tree that comes next
+abbrev pub next_form : Way → Next → Form
+next_form w (next.Once n) = met w (form_of n.now)
+next_form w (next.AnyTimes n) = AnyTimes (met w (form_of n.now))
+
 -- the form of one or another of what is left
 unfoldable pub any_form : Way → List Left → Form
 any_form w ls = choice_of (map (left_form w) ls)
@@ -34,6 +41,15 @@ any_form w ls = choice_of (map (left_form w) ls)
 -- the same of two lists
 abbrev pub both_form : Way → List Left → List Left → Form
 both_form w ls ms = Choice (any_form w ls) (any_form w ms)
+
+-- the last of them
+abbrev pub last_of : List Left → Option Left
+last_of ls = slice_get ls (length ls - 1)
+
+-- both are there, and have the same form
+abbrev pub IsSameLast : Option Left → Option Left → Type 0
+IsSameLast (Some l) (Some m) = (w : Way) → left_form w l ≡ left_form w m
+IsSameLast _ _ = ⊥
 
 -- the second form matches exactly what the first matches after this byte
 pub record IsBehind (b : ℕ) (p q : Form) : Type 0 where

@@ -1,8 +1,8 @@
 ghost use Rattle.std.specs.Prelude.{◌≡◌, IfOk};
-ghost use Rattle.bash_patterns.specs.Form.{AnyTimes, Both, form_of};
-ghost use Rattle.bash_patterns.specs.Left.{IsBehind, left_form, met};
+ghost use Rattle.bash_patterns.specs.Form.{Both, form_of};
+ghost use Rattle.bash_patterns.specs.Left.{IsBehind, left_form, met, next_form};
 
-use crate::combine::{either, none_of, repeated, then};
+use crate::combine::{Next, either, none_of, then};
 use crate::left::Left;
 use crate::node::Node;
 use crate::way::Way;
@@ -43,7 +43,7 @@ pub fn behind_node<'n>(
         Node::Optional(inner) => behind_node(alloc, inner, way, byte),
         Node::ZeroOrMore(inner) | Node::OneOrMore(inner) => {
             let first = behind_node(alloc, inner, way, byte)?;
-            repeated(alloc, first, inner)
+            then(alloc, first, Next::AnyTimes(inner))
         }
         Node::NoneOf(inner) => {
             let left = behind_node(alloc, inner, way, byte)?;
@@ -65,7 +65,7 @@ fn behind_both<'n>(
     ensures { IfOk result (λ left. IsBehind byte (Both (met way (form_of near.now)) (met way (form_of far.now))) (left_form way left)) }
 {
     let first = behind_node(alloc, near, way, byte)?;
-    let both = then(alloc, first, far)?;
+    let both = then(alloc, first, Next::Once(far))?;
     if !near.may_end() {
         return Ok(both);
     }
@@ -77,7 +77,8 @@ fn behind_both<'n>(
 ///
 /// # Errors
 /// `Memory` where there is no room for it.
-#[tactic(auto, using(crate::proofs::Derived::left_closed, crate::proofs::Derived::left_open, crate::proofs::Derived::left_Choice, crate::proofs::Derived::left_Not, crate::proofs::Derived::left_AnyTimes, crate::proofs::Derived::left_never, crate::proofs::Derived::left_Empty, crate::proofs::Derived::left_Whatever, crate::proofs::Derived::left_Repeated), unfolding(crate::specs::Left::left_form, crate::specs::Form::form_of))]
+#[cycle(behind)]
+#[tactic(auto, using(crate::proofs::Derived::left_Choice, crate::proofs::Derived::left_Not, crate::proofs::Derived::left_never, crate::proofs::Derived::left_Empty, crate::proofs::Derived::left_Whatever), unfolding(crate::specs::Left::left_form, crate::specs::Form::form_of))]
 pub fn behind<'n>(alloc: Global, left: &Left<'n>, way: Way, byte: u8) -> Result<Left<'n>, Memory>
     ensures { IfOk result (λ rest. IsBehind byte (left_form way left.now) (left_form way rest)) }
 {
@@ -85,25 +86,8 @@ pub fn behind<'n>(alloc: Global, left: &Left<'n>, way: Way, byte: u8) -> Result<
         Left::Never | Left::Nothing => Ok(Left::Never),
         Left::Anything => Ok(Left::Anything),
         Left::Whole(node) => behind_node(alloc, node, way, byte),
-        Left::Then(first, second) => {
-            let rest = behind(alloc, first, way, byte)?;
-            let both = then(alloc, rest, second)?;
-            if !first.may_end() {
-                return Ok(both);
-            }
-            let second = behind_node(alloc, second, way, byte)?;
-            either(alloc, both, second)
-        }
-        Left::Repeated(first, node) => {
-            let rest = behind(alloc, first, way, byte)?;
-            let both = repeated(alloc, rest, node)?;
-            if !first.may_end() {
-                return Ok(both);
-            }
-            let again = behind_node(alloc, node, way, byte)?;
-            let again = repeated(alloc, again, node)?;
-            either(alloc, both, again)
-        }
+        Left::Then(first, second) => behind_rest(alloc, first, Next::Once(second), way, byte),
+        Left::Repeated(first, node) => behind_rest(alloc, first, Next::AnyTimes(node), way, byte),
         Left::Either(first, second) => {
             let near = behind(alloc, first, way, byte)?;
             let far = behind(alloc, second, way, byte)?;
@@ -112,6 +96,41 @@ pub fn behind<'n>(alloc: Global, left: &Left<'n>, way: Way, byte: u8) -> Result<
         Left::NoneOf(inner) => {
             let rest = behind(alloc, inner, way, byte)?;
             none_of(alloc, rest)
+        }
+    }
+}
+
+// The same of what is left of one tree, with another after it.
+#[cycle(behind)]
+#[tactic(auto, using(crate::proofs::Derived::left_closed, crate::proofs::Derived::left_open), unfolding(crate::specs::Left::left_form))]
+fn behind_rest<'n>(
+    alloc: Global,
+    first: &Left<'n>,
+    next: Next<'n>,
+    way: Way,
+    byte: u8,
+) -> Result<Left<'n>, Memory>
+    ensures { IfOk result (λ left. IsBehind byte (Both (left_form way first.now) (next_form way next.entry)) (left_form way left)) }
+{
+    let rest = behind(alloc, first, way, byte)?;
+    let both = then(alloc, rest, next)?;
+    if !first.may_end() {
+        return Ok(both);
+    }
+    let again = behind_next(alloc, next, way, byte)?;
+    either(alloc, both, again)
+}
+
+// What is left after a byte of a tree that comes next.
+#[tactic(auto, using(crate::proofs::Derived::left_AnyTimes), unfolding(crate::specs::Left::left_form))]
+fn behind_next<'n>(alloc: Global, next: Next<'n>, way: Way, byte: u8) -> Result<Left<'n>, Memory>
+    ensures { IfOk result (λ left. IsBehind byte (next_form way next.entry) (left_form way left)) }
+{
+    match next {
+        Next::Once(node) => behind_node(alloc, node, way, byte),
+        Next::AnyTimes(node) => {
+            let first = behind_node(alloc, node, way, byte)?;
+            then(alloc, first, next)
         }
     }
 }

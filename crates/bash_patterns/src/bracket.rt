@@ -10,7 +10,7 @@ use std::cmp::Ordering;
 use std::marker::Model;
 
 /// A member of a bracket expression.
-#[derive(Clone, Copy, Debug, PartialEq, Eq)]
+#[derive(Clone, Copy)]
 pub enum Member {
     /// The bytes from the first to the second.
     Range(u8, u8),
@@ -46,7 +46,7 @@ impl Member {
 }
 
 /// A list of members. Contracts see it as that list.
-#[derive(Debug, Drop)]
+#[derive(Drop)]
 pub struct Members {
     items: Vec<Member>,
 }
@@ -61,7 +61,7 @@ impl Model for Members {
 }
 
 /// A bracket expression.
-#[derive(Debug, Drop)]
+#[derive(Drop)]
 pub struct Bracket {
     /// Whether it matches the bytes that are no members.
     pub negated: bool,

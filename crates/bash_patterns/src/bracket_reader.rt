@@ -1,11 +1,11 @@
-ghost use Rattle.std.specs.Prelude.{◌≡◌, ◌-◌, ◌≤◌, ◌&&◌, drop, false, length, nat_le, true, IfOk, IfSome};
-ghost use Rattle.std.specs.List.{list_any};
+ghost use Rattle.std.specs.Prelude.{◌≡◌, ◌≤◌, ◌∷◌, ◌&&◌, drop, false, length, slice_index_or, true, IfOk, IfSome};
 ghost use Rattle.std.specs.Option.{option_map};
-ghost use Rattle.bash_patterns.specs.Bracketed.{as_bracket, bracket_at, closes, is_closing, is_opening, member_at, members_from, negates, range_end, range_or_byte};
+ghost use Rattle.bash_patterns.specs.Bracketed.{as_bracket, bracket_at, closes, inside, is_open, is_opening, member_at, members_from, negates, open_ends, range_end, range_or_byte};
 ghost use Rattle.bash_patterns.specs.Seen.{seen_closed, seen_read};
 
 use crate::bracket::{Bracket, Member, Members};
 use crate::class::Class;
+use crate::places::value_at;
 use crate::symbol::{Role, Symbol, split_symbol};
 use eb_bytes::Memory;
 use std::alloc::Global;
@@ -163,24 +163,50 @@ fn bracket_of(
     }
 }
 
-/// How many symbols at the end hold no closing bracket, so that no bracket closes that opens before one of them.
-pub fn unclosed(symbols: &[Symbol]) -> usize
-    ensures fits { result ≤ length symbols.now }
-    ensures none { list_any is_closing (drop (length symbols.now - result) symbols.now) ≡ false }
+/// Of each end of these symbols, the shortest first, whether no bracket closes whose members go on there.
+///
+/// # Errors
+/// `Memory` where there is no room for the answers.
+pub fn open_ends(alloc: Global, symbols: &[Symbol]) -> Result<Vec<bool>, Memory>
+    ensures { IfOk result (λ ends. ends.items ≡ open_ends symbols.now) }
 {
+    let mut ends = Vec::new(alloc);
+    ends.push(true)?;
     for count in 0..symbols.len() {
-        let symbol = symbols[symbols.len() - 1 - count];
-        if closes(false, symbol.role()) {
-            return count;
-        }
+        let place = symbols.len() - 1 - count;
+        let stays = stays_open(symbols[place], &symbols[place + 1..], ends.as_slice());
+        ends.push(stays)?;
     }
-    symbols.len()
+    Ok(ends)
 }
 
-/// Whether this is an opening bracket that never closes, since only symbols follow that hold no closing one: `unclosed`
-/// of them at the end hold none.
-pub fn is_lone(symbol: Symbol, behind: &[Symbol], unclosed: usize) -> bool
-    ensures { result ≡ (is_opening symbol && nat_le (length behind.now) unclosed) }
+// The same of the end that begins with this symbol, where `ends` says it of the ends of the symbols after it.
+fn stays_open(symbol: Symbol, behind: &[Symbol], ends: &[bool]) -> bool
+    requires { ends.now ≡ open_ends behind.now }
+    ensures { result ≡ is_open (symbol ∷ behind.now) }
 {
-    matches!(symbol, Symbol::Unquoted(b'[')) && behind.len() <= unclosed
+    if closes(false, symbol.role()) {
+        return false;
+    }
+    let read = member_at(symbol, behind);
+    value_at(ends, read.rest.len())
+}
+
+// What the members of a bracket begin with that stands before these symbols.
+fn inside(symbols: &[Symbol]) -> &[Symbol]
+    ensures { result.now ≡ inside symbols.now }
+{
+    if negates(symbols) {
+        after(symbols, 1)
+    } else {
+        symbols
+    }
+}
+
+/// Whether this is an opening bracket that never closes, since no bracket closes whose members go on where its own
+/// begin: `ends` says it of each end.
+pub fn is_lone(symbol: Symbol, behind: &[Symbol], ends: &[bool]) -> bool
+    ensures { result ≡ (is_opening symbol && slice_index_or ends.now (length (inside behind.now)) false) }
+{
+    matches!(symbol, Symbol::Unquoted(b'[')) && value_at(ends, inside(behind).len())
 }

@@ -8,7 +8,7 @@ use eb_bytes::{is_blank, is_digit, is_letter, is_letter_or_digit, is_lower, is_u
 use std::cmp::Ordering;
 
 /// The character classes of POSIX, in ASCII.
-#[derive(Clone, Copy, Debug, PartialEq, Eq)]
+#[derive(Clone, Copy, PartialEq)]
 pub enum Class {
     Alnum,
     Alpha,

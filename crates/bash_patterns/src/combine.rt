@@ -1,7 +1,8 @@
 ghost use Rattle.std.specs.Prelude.{◌≡◌, ◌+◌, ◌-◌, ◌<◌, ◌≤◌, true, [], length, OnOk, IfOk, IfNone, IfSome};
+ghost use Rattle.std.specs.declared.cmp.Ordering.TheVariants.{Equal, Greater, Less};
 ghost use Rattle.bash_patterns.specs.declared.way.Way.{Way};
-ghost use Rattle.bash_patterns.specs.Form.{AnyTimes, Both, Choice, Not, form_of};
-ghost use Rattle.bash_patterns.specs.Left.{IsSame, IsWithin, any_form, both_form, left_form, met};
+ghost use Rattle.bash_patterns.specs.Form.{Both, Choice, Not};
+ghost use Rattle.bash_patterns.specs.Left.{IsSame, IsSameLast, IsWithin, any_form, both_form, last_of, left_form, next_form};
 
 use crate::left::Left;
 use crate::node::Node;
@@ -33,24 +34,52 @@ pub fn either<'n>(alloc: Global, first: Left<'n>, second: Left<'n>) -> Result<Le
 }
 
 // Two alternatives in order, or one where the other is seen to lie within it.
-#[tactic(auto, using(crate::proofs::Combined::within_itself, crate::proofs::Combined::same_first, crate::proofs::Combined::same_second, crate::proofs::Combined::same_itself, crate::proofs::Combined::same_turned), unfolding(crate::specs::Left::left_form))]
+#[tactic(auto, using(crate::proofs::Combined::same_first, crate::proofs::Combined::same_second, crate::proofs::Combined::same_swapped))]
 fn pair<'n>(alloc: Global, first: Left<'n>, second: Left<'n>) -> Result<Left<'n>, Memory>
     ensures { IfOk result (λ left. (way : Way) → IsSame (left_form way left) (Choice (left_form way first.entry) (left_form way second.entry))) }
 {
-    let order = first.compare(&second);
-    if order.is_eq() || first.is_within(&second) {
-        return Ok(second);
+    match kept_of(&first, &second) {
+        Kept::First => Ok(first),
+        Kept::Second => Ok(second),
+        Kept::InOrder => both(alloc, first, second),
+        Kept::Turned => both(alloc, second, first),
     }
-    if second.is_within(&first) {
-        return Ok(first);
-    }
-    let first = Box::new(alloc, first)?;
-    let second = Box::new(alloc, second)?;
-    if order.is_lt() {
-        Ok(Left::Either(first, second))
+}
+
+// Which of two alternatives are kept: one alone, or both, in their order or turned round.
+#[derive(Clone, Copy)]
+enum Kept {
+    First,
+    Second,
+    InOrder,
+    Turned,
+}
+
+#[tactic(auto, using(crate::proofs::Combined::within_itself))]
+fn kept_of<'n>(first: &Left<'n>, second: &Left<'n>) -> Kept
+    ensures first { result ≡ Kept.First → (way : Way) → IsWithin (left_form way second.now) (left_form way first.now) }
+    ensures second { result ≡ Kept.Second → (way : Way) → IsWithin (left_form way first.now) (left_form way second.now) }
+{
+    let order = first.compare(second);
+    if order.is_eq() || first.is_within(second) {
+        Kept::Second
+    } else if second.is_within(first) {
+        Kept::First
+    } else if order.is_lt() {
+        Kept::InOrder
     } else {
-        Ok(Left::Either(second, first))
+        Kept::Turned
     }
+}
+
+// One alternative or the other.
+#[tactic(auto, using(crate::proofs::Combined::same_itself), unfolding(crate::specs::Left::left_form))]
+fn both<'n>(alloc: Global, near: Left<'n>, far: Left<'n>) -> Result<Left<'n>, Memory>
+    ensures { IfOk result (λ left. (way : Way) → IsSame (left_form way left) (Choice (left_form way near.entry) (left_form way far.entry))) }
+{
+    let near = Box::new(alloc, near)?;
+    let far = Box::new(alloc, far)?;
+    Ok(Left::Either(near, far))
 }
 
 // The alternatives of two trees, in order, where both have theirs in order.
@@ -95,37 +124,40 @@ fn merge<'n>(
     ensures { IfOk result (λ parts. (way : Way) → IsSame (any_form way parts.items) (both_form way firsts.entry.items seconds.entry.items)) }
 {
     let mut parts = Vec::new(alloc);
-    while let Some(part) = take_last(&mut firsts, &mut seconds)? {
+    while let Some(part) = take_last(&mut firsts, &mut seconds) {
         parts.push(part)?;
     }
     Ok(parts)
 }
 
 // Takes the last in order from two lists that are in order; from both, where theirs are the same.
-#[tactic(auto, using(crate::proofs::Alternatives::taken_none, crate::proofs::Alternatives::taken_alone, crate::proofs::Alternatives::taken_other, crate::proofs::Alternatives::taken_twice, crate::proofs::Alternatives::taken_first, crate::proofs::Alternatives::taken_second))]
-fn take_last<'n>(
-    firsts: &mut Vec<Left<'n>>,
-    seconds: &mut Vec<Left<'n>>,
-) -> Result<Option<Left<'n>>, Memory>
-    ensures taken { IfOk result (λ part. IfSome part (λ left. (way : Way) → IsSame (both_form way firsts.old.items seconds.old.items) (Choice (left_form way left) (both_form way firsts.new.items seconds.new.items)))) }
-    ensures none { IfOk result (λ part. IfNone part ((way : Way) → IsSame (both_form way firsts.old.items seconds.old.items) (any_form way []))) }
-    ensures fewer { IfOk result (λ part. IfSome part (λ _. length firsts.new.items + length seconds.new.items < length firsts.old.items + length seconds.old.items)) }
+#[tactic(auto, using(crate::proofs::Alternatives::taken_none, crate::proofs::Alternatives::taken_first, crate::proofs::Alternatives::taken_second, crate::proofs::Alternatives::taken_twice, crate::proofs::Alternatives::same_last_first, crate::proofs::Alternatives::same_last_second))]
+fn take_last<'n>(firsts: &mut Vec<Left<'n>>, seconds: &mut Vec<Left<'n>>) -> Option<Left<'n>>
+    ensures taken { IfSome result (λ left. (way : Way) → IsSame (both_form way firsts.old.items seconds.old.items) (Choice (left_form way left) (both_form way firsts.new.items seconds.new.items))) }
+    ensures none { IfNone result ((way : Way) → IsSame (both_form way firsts.old.items seconds.old.items) (any_form way [])) }
+    ensures fewer { IfSome result (λ _. length firsts.new.items + length seconds.new.items < length firsts.old.items + length seconds.old.items) }
 {
-    match (firsts.pop(), seconds.pop()) {
-        (None, None) => Ok(None),
-        (Some(first), None) => Ok(Some(first)),
-        (None, Some(second)) => Ok(Some(second)),
-        (Some(first), Some(second)) => match first.compare(&second) {
-            Ordering::Equal => Ok(Some(first)),
-            Ordering::Greater => {
-                seconds.push(second)?;
-                Ok(Some(first))
-            }
-            Ordering::Less => {
-                firsts.push(first)?;
-                Ok(Some(second))
-            }
+    match later(firsts.as_slice(), seconds.as_slice()) {
+        Ordering::Greater => firsts.pop(),
+        Ordering::Less => seconds.pop(),
+        Ordering::Equal => match seconds.pop() {
+            Some(_) => firsts.pop(),
+            None => None,
         },
+    }
+}
+
+// The order of the last parts of two lists; an empty list is before any other.
+#[tactic(auto, using(crate::proofs::Alternatives::last_some))]
+fn later<'n>(firsts: &[Left<'n>], seconds: &[Left<'n>]) -> Ordering
+    ensures first { result ≡ Greater → 1 ≤ length firsts.now }
+    ensures second { result ≡ Less → length seconds.now ≡ 0 → length firsts.now ≡ 0 }
+    ensures same { result ≡ Equal → IsSameLast (last_of firsts.now) (last_of seconds.now) }
+{
+    match (firsts.last(), seconds.last()) {
+        (Some(first), Some(second)) => first.compare(second),
+        (Some(_), None) => Ordering::Greater,
+        (None, _) => Ordering::Less,
     }
 }
 
@@ -168,9 +200,14 @@ fn gather<'n>(alloc: Global, parts: &mut Vec<Left<'n>>, count: usize) -> Result<
     let half = count / 2;
     let second = gather(alloc, parts, half)?;
     let first = gather(alloc, parts, count - half)?;
-    let first = Box::new(alloc, first)?;
-    let second = Box::new(alloc, second)?;
-    Ok(Left::Either(first, second))
+    both(alloc, first, second)
+}
+
+/// A tree that comes after what is left: once, or any number of times.
+#[derive(Clone, Copy)]
+pub enum Next<'n> {
+    Once(&'n Node),
+    AnyTimes(&'n Node),
 }
 
 /// What is left of one tree, and another after it. Each alternative gets it after itself, so that equal ones are
@@ -178,39 +215,32 @@ fn gather<'n>(alloc: Global, parts: &mut Vec<Left<'n>>, count: usize) -> Result<
 ///
 /// # Errors
 /// `Memory` where there is no room for it.
-#[tactic(auto, using(crate::proofs::Combined::same_never, crate::proofs::Combined::same_Empty, crate::proofs::Combined::same_Both, crate::proofs::Combined::same_itself), unfolding(crate::specs::Left::left_form))]
-pub fn then<'n>(alloc: Global, first: Left<'n>, second: &'n Node) -> Result<Left<'n>, Memory>
-    ensures { IfOk result (λ left. (way : Way) → IsSame (left_form way left) (Both (left_form way first.entry) (met way (form_of second.now)))) }
+#[tactic(auto, using(crate::proofs::Combined::same_never, crate::proofs::Combined::same_Both), unfolding(crate::specs::Left::left_form))]
+pub fn then<'n>(alloc: Global, first: Left<'n>, next: Next<'n>) -> Result<Left<'n>, Memory>
+    ensures { IfOk result (λ left. (way : Way) → IsSame (left_form way left) (Both (left_form way first.entry) (next_form way next.entry))) }
 {
     match first {
         Left::Never => Ok(Left::Never),
-        Left::Nothing => Ok(Left::Whole(second)),
         Left::Either(near, far) => {
-            let near = then(alloc, Box::into_inner(near), second)?;
-            let far = then(alloc, Box::into_inner(far), second)?;
+            let near = then(alloc, Box::into_inner(near), next)?;
+            let far = then(alloc, Box::into_inner(far), next)?;
             either(alloc, near, far)
         }
-        _ => Ok(Left::Then(Box::new(alloc, first)?, second)),
+        _ => before(alloc, first, next),
     }
 }
 
-/// What is left of one tree, and another any number of times after it. Each alternative gets it after itself, so that
-/// equal ones are seen.
-///
-/// # Errors
-/// `Memory` where there is no room for it.
-#[tactic(auto, using(crate::proofs::Combined::same_never, crate::proofs::Combined::same_Both, crate::proofs::Combined::same_itself), unfolding(crate::specs::Left::left_form))]
-pub fn repeated<'n>(alloc: Global, first: Left<'n>, node: &'n Node) -> Result<Left<'n>, Memory>
-    ensures { IfOk result (λ left. (way : Way) → IsSame (left_form way left) (Both (left_form way first.entry) (AnyTimes (met way (form_of node.now))))) }
+// The same of what is one alternative.
+#[tactic(auto, using(crate::proofs::Combined::same_Empty, crate::proofs::Combined::same_itself), unfolding(crate::specs::Left::left_form))]
+fn before<'n>(alloc: Global, first: Left<'n>, next: Next<'n>) -> Result<Left<'n>, Memory>
+    ensures { IfOk result (λ left. (way : Way) → IsSame (left_form way left) (Both (left_form way first.entry) (next_form way next.entry))) }
 {
-    match first {
-        Left::Never => Ok(Left::Never),
-        Left::Either(near, far) => {
-            let near = repeated(alloc, Box::into_inner(near), node)?;
-            let far = repeated(alloc, Box::into_inner(far), node)?;
-            either(alloc, near, far)
-        }
-        _ => Ok(Left::Repeated(Box::new(alloc, first)?, node)),
+    match next {
+        Next::Once(node) => match first {
+            Left::Nothing => Ok(Left::Whole(node)),
+            _ => Ok(Left::Then(Box::new(alloc, first)?, node)),
+        },
+        Next::AnyTimes(node) => Ok(Left::Repeated(Box::new(alloc, first)?, node)),
     }
 }
 

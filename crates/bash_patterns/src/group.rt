@@ -9,7 +9,7 @@ use eb_bytes::Memory;
 use std::alloc::Global;
 
 /// The kinds of extended groups.
-#[derive(Clone, Copy, Debug, PartialEq, Eq)]
+#[derive(Clone, Copy)]
 pub enum GroupKind {
     /// `?(..)`
     AtMostOnce,

@@ -6,7 +6,7 @@ use eb_bytes::Memory;
 use std::alloc::Global;
 
 /// How trees are joined.
-#[derive(Clone, Copy, Debug, PartialEq, Eq)]
+#[derive(Clone, Copy)]
 pub enum Join {
     /// One after the other.
     Row,

@@ -8,7 +8,7 @@ use crate::node::Node;
 
 /// What is left of a tree after the bytes that a walk has passed. What the walk has not come to yet is borrowed
 /// from the tree.
-#[derive(Debug, Drop)]
+#[derive(Drop)]
 pub enum Left<'n> {
     /// What no text matches.
     Never,

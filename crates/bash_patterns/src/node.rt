@@ -5,7 +5,7 @@ ghost use Rattle.bash_patterns.specs.Walk.{is_plain};
 use crate::test::Test;
 
 /// A pattern as a tree.
-#[derive(Debug, Drop)]
+#[derive(Drop)]
 pub enum Node {
     Nothing,
     One(Test),

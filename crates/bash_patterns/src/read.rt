@@ -5,7 +5,7 @@ ghost use Rattle.bash_patterns.specs.Matching.{matches};
 ghost use Rattle.bash_patterns.specs.Reading.{behind_first, first_of, grouped, kind_at, plain, reading, single};
 ghost use Rattle.bash_patterns.specs.Symbols.{role_of};
 
-use crate::bracket_reader::{is_lone, read_bracket, unclosed};
+use crate::bracket_reader::{is_lone, open_ends, read_bracket};
 use crate::error::PatErr;
 use crate::group::{GroupKind, alternatives_at, group_kind};
 use crate::join::{Join, join_last};
@@ -25,11 +25,11 @@ pub fn read(alloc: Global, symbols: &[Symbol], extended: bool, levels: u8) -> Re
     ensures ok { IfOk result (λ node. IsReadAs (reading levels extended symbols.now) (language node)) }
     ensures deep { result ≡ Err PatErr.TooDeep → reading levels extended symbols.now ≡ None }
 {
-    let unclosed = unclosed(symbols);
+    let ends = open_ends(alloc, symbols)?;
     let mut row = Vec::new(alloc);
     let mut rest = symbols;
     while let Some((symbol, behind)) = split_symbol(rest) {
-        if is_lone(symbol, behind, unclosed) {
+        if is_lone(symbol, behind, ends.as_slice()) {
             push_plain(symbol, &mut row)?;
             rest = behind;
         } else {

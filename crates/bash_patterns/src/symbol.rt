@@ -5,7 +5,7 @@ use eb_bytes::{Mark, Memory};
 use std::alloc::Global;
 
 /// A byte of a pattern, and whether it is quoted.
-#[derive(Clone, Copy, Debug, PartialEq, Eq)]
+#[derive(Clone, Copy)]
 pub enum Symbol {
     /// A byte that may mean more than itself.
     Unquoted(u8),
@@ -14,7 +14,7 @@ pub enum Symbol {
 }
 
 /// What a symbol can do.
-#[derive(Clone, Copy, Debug, PartialEq, Eq)]
+#[derive(Clone, Copy)]
 pub enum Role {
     /// `(`
     GroupOpening,

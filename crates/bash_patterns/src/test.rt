@@ -5,7 +5,7 @@ ghost use Rattle.bash_patterns.specs.Walk.{passes_next as passes_next_of};
 use crate::bracket::Bracket;
 
 /// What one byte of a text is asked.
-#[derive(Debug, Drop)]
+#[derive(Drop)]
 pub enum Test {
     /// To be this byte.
     Byte(u8),

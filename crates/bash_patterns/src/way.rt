@@ -3,7 +3,7 @@ ghost use Rattle.bash_patterns.specs.Facing.{facing};
 ghost use Rattle.bash_patterns.specs.Walk.{end_of};
 
 /// From which end a text is walked.
-#[derive(Clone, Copy, Debug, PartialEq, Eq)]
+#[derive(Clone, Copy)]
 pub enum Way {
     /// From its end to its beginning.
     Backward,
@@ -25,7 +25,7 @@ impl Way {
 }
 
 /// Where a match must end that a walk looks for.
-#[derive(Clone, Copy, Debug, PartialEq, Eq)]
+#[derive(Clone, Copy)]
 pub enum Goal {
     /// Where the walk begins.
     End,

@@ -18,7 +18,7 @@ read-loop-symbol-init t c = record {
 
 pub read-loop-symbol-preserved-then-is_lone : goal.read-loop-symbol-preserved-then-is_lone
 read-loop-symbol-preserved-then-is_lone t c = record {
-  forms = lone_next (groups_of c.args.levels c.args.extended) c.args.extended c.in-Some.symbol c.in-Some.behind.now c.loop-symbol.rest.now c.args.symbols.now _ (languages c.loop-symbol.row.items) _ _ c.loop-symbol.invariant.forms c.loop-symbol.invariant.end c.in-Some.ensures (sym c.is_lone.ensures ∙ c.if-is_lone.true) c.unclosed-unclosed.ensures.fits c.unclosed-unclosed.ensures.none c.in_ok-push_plain.ensures;
+  forms = lone_next (groups_of c.args.levels c.args.extended) c.args.extended c.in-Some.symbol c.in-Some.behind.now c.loop-symbol.rest.now c.args.symbols.now _ _ (languages c.loop-symbol.row.items) _ _ c.loop-symbol.invariant.forms c.loop-symbol.invariant.end c.in-Some.ensures c.in_ok-ends.ensures c.as_slice.ensures.value (sym c.is_lone.ensures ∙ c.if-is_lone.true) c.in_ok-push_plain.ensures;
   end = end_after c.in-Some.symbol c.in-Some.behind.now c.loop-symbol.rest.now c.args.symbols.now c.in-Some.ensures c.loop-symbol.invariant.end;
 }
 
