@@ -18,7 +18,7 @@ pub struct Assignment<'a> {
 }
 
 /// Why a text has no list of assignments.
-#[derive(Clone, Copy, Debug, PartialEq, Eq)]
+#[derive(Clone, Copy)]
 pub enum PlainErr {
     /// The line of this number, counted from 1, is the first that is not plain.
     NotPlain(u32),

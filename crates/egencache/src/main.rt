@@ -14,8 +14,6 @@ mod request;
 mod source;
 mod status;
 mod system;
-#[cfg(test)]
-mod tests;
 mod text_laws;
 mod top;
 
