@@ -7,7 +7,6 @@ mod assignments;
 mod fault;
 mod host;
 mod line_laws;
-mod lines;
 mod plain;
 mod report;
 mod request;
