@@ -1,6 +1,7 @@
 pub mod Conditions
 pub mod Cuts
 pub mod Example
+pub mod LinesRead
 pub mod PlainForms
 pub mod PlainTexts
 pub mod PlainValues

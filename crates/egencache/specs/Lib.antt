@@ -2,7 +2,6 @@ pub mod Answered
 pub mod Assignments
 pub mod ExitStatus
 pub mod Faults
-pub mod LinesLeft
 pub mod Meaning
 pub mod Placed
 pub mod Plain

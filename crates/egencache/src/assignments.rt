@@ -5,7 +5,6 @@ ghost use Rattle.egencache.specs.Assignments.{assignments_of, bad_line, variable
 ghost use Rattle.egencache.specs.Seen.{assigned};
 ghost use Rattle.egencache.specs.Tells.{TellsAssignments};
 
-use crate::lines::Lines;
 use crate::plain::{Line, read_line};
 use eb_bytes::Memory;
 use std::alloc::{AllocError, AllocFailed, Global};
@@ -18,7 +17,7 @@ pub struct Assignment<'a> {
 }
 
 /// Why a text has no list of assignments.
-#[derive(Clone, Copy, Debug, PartialEq, Eq)]
+#[derive(Clone, Copy)]
 pub enum PlainErr {
     /// The line of this number, counted from 1, is the first that is not plain.
     NotPlain(u32),
@@ -46,7 +45,7 @@ pub fn read_assignments(alloc: Global, text: &[u8]) -> Result<Vec<Assignment<'_>
 {
     let mut list = Vec::new(alloc);
     let mut number = 0;
-    for line in Lines::new(text) {
+    for line in text.split(|byte| *byte == b'\n') {
         number += 1;
         match read_line(line) {
             Line::Nothing => {}

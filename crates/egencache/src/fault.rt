@@ -6,7 +6,7 @@ use ebuild_names::NameKind;
 use std::alloc::Global;
 
 /// Why an ebuild has no entry.
-#[derive(Debug, Drop)]
+#[derive(Drop)]
 pub enum Fault {
     /// The first part of its path that is malformed.
     NameBad(NameKind),

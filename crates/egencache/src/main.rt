@@ -7,15 +7,12 @@ mod assignments;
 mod fault;
 mod host;
 mod line_laws;
-mod lines;
 mod plain;
 mod report;
 mod request;
 mod source;
 mod status;
 mod system;
-#[cfg(test)]
-mod tests;
 mod text_laws;
 mod top;
 

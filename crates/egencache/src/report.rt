@@ -29,7 +29,7 @@ pub struct Report {
 }
 
 /// Why there is no report.
-#[derive(Clone, Copy, Debug, PartialEq, Eq)]
+#[derive(Clone, Copy)]
 pub enum ReportErr {
     /// A file could not be read.
     FileFault,

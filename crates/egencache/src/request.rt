@@ -1,7 +1,6 @@
-ghost use Rattle.std.specs.Prelude.{◌≡◌, ◌∷◌, [], position, MatchOption, IfOk};
-ghost use Rattle.std.specs.List.{slice_split};
+ghost use Rattle.std.specs.Prelude.{◌≡◌, IfOk};
 ghost use Rattle.std.specs.Option.{option_map};
-ghost use Rattle.eb_files.specs.Paths.{is_slash, path_of};
+ghost use Rattle.eb_files.specs.Paths.{path_of};
 ghost use Rattle.egencache.specs.Request.{as_place, asked_at, place_of, request_of};
 ghost use Rattle.egencache.specs.Placed.{placed, requested};
 
@@ -26,23 +25,6 @@ pub struct Request<'a> {
     pub place: EbuildPath,
 }
 
-// The index of the first slash.
-fn slash(text: &[u8]) -> Option<usize>
-    ensures { result ≡ position is_slash text.now }
-{
-    text.iter().position(|byte| *byte == b'/')
-}
-
-// What comes before the first slash, and what after it.
-fn split_slash(text: &[u8]) -> Option<(&[u8], &[u8])>
-    ensures { MatchOption result (slice_split is_slash text.now ≡ text.now ∷ []) (λ cut. slice_split is_slash text.now ≡ cut.0.now ∷ slice_split is_slash cut.1.now) }
-{
-    match slash(text) {
-        None => None,
-        Some(end) => Some((&text[..end], &text[end + 1..])),
-    }
-}
-
 // These three parts, where none is empty and the last ends in `.ebuild`.
 fn as_parts<'a>(category: &'a [u8], name: &'a [u8], file: &'a [u8]) -> Option<Parts<'a>>
     ensures { option_map placed result ≡ as_place category.now name.now file.now }
@@ -63,9 +45,11 @@ impl<'a> Parts<'a> {
     fn read(at: &'a [u8]) -> Option<Parts<'a>>
         ensures { option_map placed result ≡ place_of at.now }
     {
-        let (category, rest) = split_slash(at)?;
-        let (name, file) = split_slash(rest)?;
-        match split_slash(file) {
+        let mut parts = at.split(|byte| *byte == b'/');
+        let category = parts.next()?;
+        let name = parts.next()?;
+        let file = parts.next()?;
+        match parts.next() {
             Some(_) => None,
             None => as_parts(category, name, file),
         }

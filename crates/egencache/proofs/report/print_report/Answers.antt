@@ -23,6 +23,10 @@ returns-in_ok-file_report-in-Ok-Some-clause-status g c =
     let P : Status → Type 0 = λ s. IsReportStatus s in
     subst P (sym c.in_ok-file_report-in-Ok-Some.ensures.status) (IsReportStatus-outcome _)
 
+-- a file that could not be read is told so
+pub returns-in-Err-Failed-clause-cause : goal.returns-in-Err-Failed-clause-cause
+returns-in-Err-Failed-clause-cause g c = rw c.in-Err-Failed.field-0-is at c.in-Err-Failed.ensures.cause
+
 -- a file that is too large is not run, and has a fault
 record IsNotRun (s : Sourced) : Type 0 where
   failed : outcome_status s.outcome ≡ SomeFailed
