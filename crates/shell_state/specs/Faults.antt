@@ -1,4 +1,4 @@
--- Faults: their texts, and the one that a refusal of the variables is.
+-- Faults (own): their texts, and the one that a refusal of the variables is.
 use Rattle.std.specs.Prelude.{ℕ, List, [], ◌∷◌, ◌++◌, codes, decimal, if◌then◌else◌}
 use Rattle.eb_bytes.specs.Text.{Text, has_bytes, norm}
 use Rattle.shell_vars.specs.declared.error.VarErr.{VarErr}

@@ -1,4 +1,4 @@
--- What is open while a part runs, and is closed at its end.
+-- What is open while a part runs, and is closed at its end (own).
 use Rattle.std.specs.Prelude.{ℕ, Bool, true, false, ◌&&◌, List, ◌∷◌, length, filter, nat_le, if◌then◌else◌}
 use Rattle.shell_state.specs.State.{State}
 use Rattle.shell_state.specs.Outcome.{Doing, Ended, ◌>>=◌, ◌>>◌, pure, change, refuse}

@@ -1,4 +1,4 @@
--- How a part of a run ends, and how one part follows another.
+-- How a part of a run ends, and how one part follows another (own).
 use Rattle.std.specs.Prelude.{◌≡◌, ℕ, ◌≤◌, List, Result, Ok, Err}
 use Rattle.eb_bytes.specs.Text.{Text}
 use Rattle.shell_state.specs.State.{State}

@@ -1,4 +1,4 @@
--- Steps: how they are spent, and what costs how many. A division drops the rest.
+-- Steps (own): how they are spent, and what costs how many. A division drops the rest.
 use Rattle.std.specs.Prelude.{◌≡◌, Result, ℕ, ◌+◌, ◌-◌, ◌/◌, List, [], ◌∷◌, length, nat_le, sum_by, if◌then◌else◌}
 use Rattle.eb_bytes.specs.Spending.{Spending}
 use Rattle.eb_bytes.specs.Text.{Text}
