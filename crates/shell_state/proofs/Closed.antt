@@ -1,4 +1,4 @@
--- What is opened, and closed behind a part.
+-- What is opened, and closed after a part.
 use Rattle.std.proofs.Common.{◌≡◌, true, false, ◌∷◌, refl, ap, ◌∙◌}
 use Rattle.shell_state.specs.State.{State}
 use Rattle.shell_state.specs.Outcome.{Outcome, Ended, Faulted, Doing, and_then, ◌>>◌, pure, change}
@@ -16,15 +16,15 @@ pub opens_none : (o : Opened) (at : State) → is_too_deep o at.opened ≡ true
 unfolding opens
 opens_none o at e = rw e refl
 
--- what is done behind a part, so that what was open is open
-abbrev behind : {A : Type 0} → State → Outcome A → Outcome A
-behind before r = and_then r (λ a. change (closed before) >> pure a)
+-- what is done after a part, so that what was open is open
+abbrev after_part : {A : Type 0} → State → Outcome A → Outcome A
+after_part before r = and_then r (λ a. change (closed before) >> pure a)
 
 pub closes : {A : Type 0} (o : Opened) (p : Doing A) (at after : State) (a : A) → is_too_deep o at.opened ≡ false
     → p (record at { opened = o ∷ at.opened }) ≡ Ended a after
     → within o p at ≡ Ended a (record after { opened = at.opened })
-closes o p at after a e ends = ap (λ r. behind at (and_then r (λ _. p))) (opens_one o at e) ∙ ap (behind at) ends
+closes o p at after a e ends = ap (λ r. after_part at (and_then r (λ _. p))) (opens_one o at e) ∙ ap (after_part at) ends
 
 pub is_refused : {A : Type 0} (o : Opened) (p : Doing A) (at : State) → is_too_deep o at.opened ≡ true
     → within o p at ≡ Faulted fault.DepthLimit at.left at.host.asked
-is_refused o p at e = ap (λ r. behind at (and_then r (λ _. p))) (opens_none o at e)
+is_refused o p at e = ap (λ r. after_part at (and_then r (λ _. p))) (opens_none o at e)

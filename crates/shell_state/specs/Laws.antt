@@ -13,7 +13,7 @@ IsAssociative A B C =
     (p : Doing A) (f : A → Doing B) (g : B → Doing C) (at : State)
     → ((p >>= f) >>= g) at ≡ (p >>= (λ a. f a >>= g)) at
 
--- a part behind a value is the part with that value
+-- a part after a value is the part with that value
 abbrev pub BeginsWithValue : (A B : Type 0) → Type 0
 BeginsWithValue A B = (a : A) (f : A → Doing B) (at : State) → (pure a >>= f) at ≡ f a at
 
@@ -50,7 +50,7 @@ WithinIsRefused A =
     (o : Opened) (p : Doing A) (at : State) → is_too_deep o at.opened ≡ true
     → within o p at ≡ Faulted fault.DepthLimit at.left at.host.asked
 
--- whatever the part leaves open, behind it is open what was open before it
+-- whatever the part leaves open, after it is open what was open before it
 abbrev pub WithinBringsBack : (A : Type 0) → Type 0
 WithinBringsBack A =
     (o : Opened) (p : Doing A) (at after : State) (a : A)

@@ -34,7 +34,7 @@ opens o at =
     then refuse fault.DepthLimit at
     else Ended tt (record at { opened = o ∷ at.opened })
 
--- a part, behind which something of the state in which it began comes back; behind a fault nothing does
+-- a part, after which something of the state in which it began comes back; after a fault nothing does
 abbrev pub bringing_back : {A : Type 0} → ((before after : State) → State) → Doing A → Doing A
 bringing_back back p = λ before. (p >>= (λ a. change (back before) >> pure a)) before
 

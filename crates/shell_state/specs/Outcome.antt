@@ -15,7 +15,7 @@ pub data Outcome (A : Type 0) : Type 0 where
 abbrev pub Doing : Type 0 → Type 0
 Doing A = State → Outcome A
 
--- goes on with the value, in the state then; behind a fault nothing is done
+-- goes on with the value, in the state then; after a fault nothing is done
 abbrev pub and_then : {A B : Type 0} → Outcome A → (A → Doing B) → Outcome B
 and_then (Ended a at) f = f a at
 and_then (Faulted fault left asked) f = Faulted fault left asked

@@ -8,7 +8,7 @@ pub fn sequencing_is_associative<A, B, C>()
     ensures { IsAssociative A B C }
 {}
 
-/// A part behind a value is the part with that value.
+/// A part after a value is the part with that value.
 pub fn sequencing_begins_with_a_value<A, B>()
     ensures { BeginsWithValue A B }
 {}
@@ -54,7 +54,7 @@ pub fn within_is_refused<A>()
     ensures { WithinIsRefused A }
 {}
 
-/// Whatever a part leaves open, behind it is open what was open before it.
+/// Whatever a part leaves open, after it is open what was open before it.
 pub fn within_brings_back<A>()
     ensures { WithinBringsBack A }
 {}
