@@ -146,6 +146,24 @@ fn kept_values(
     Ok(kept)
 }
 
+// The values that an entry keeps, where each key that always stands has words.
+fn complete_values(alloc: Global, values: &[(Key, Bytes)]) -> Result<Vec<(Key, Bytes)>, EntryErr>
+    requires { IsTrue (has_bytes (words_of Key.Eapi values.now)) → IsSome (eapi_of values.now) }
+    ensures complete { OnOk result (IsTrue (is_complete values.now)) }
+    ensures eapi { OnOk result (IsSome (eapi_of values.now)) }
+    ensures incomplete { result ≡ Err EntryErr.Incomplete → is_complete values.now ≡ false }
+    ensures values { IfOk result (λ kept. kept.items ≡ kept_values values.now) }
+    ensures never_bad { result ≢ Err EntryErr.BadEntry }
+{
+    if !is_complete(alloc, values)? {
+        return Err(EntryErr::Incomplete);
+    }
+    let Some(eapi) = eapi_of(alloc, values)? else {
+        return Err(EntryErr::Incomplete);
+    };
+    Ok(kept_values(alloc, values, eapi)?)
+}
+
 impl Entry {
     /// The entry of these values, in any order, of the eclasses that were read, in any order and as often as they
     /// were, and of the ebuild's MD5. A value becomes its words joined by one blank; a key without words, or that the
@@ -174,13 +192,7 @@ impl Entry {
         ensures md5 { IfOk result (λ entry. entry.md5 ≡ md5) }
         ensures never_bad { result ≢ Err EntryErr.BadEntry }
     {
-        if !is_complete(alloc, values.as_slice())? {
-            return Err(EntryErr::Incomplete);
-        }
-        let Some(eapi) = eapi_of(alloc, values.as_slice())? else {
-            return Err(EntryErr::Incomplete);
-        };
-        let kept = kept_values(alloc, values.as_slice(), eapi)?;
+        let kept = complete_values(alloc, values.as_slice())?;
         let record = record_of(alloc, eclasses)?;
         Ok(Entry {
             values: kept,
