@@ -276,12 +276,12 @@ no_ref_row = refl
 -- ---- what the text of `$'..'` stands for
 
 ansi_row : map ansi_text (codes "a\\tb\\'" ∷ codes "\\x41\\x4g\\xg" ∷ codes "\\1011\\8\\q" ∷ codes "a\\0b" ∷ codes "\\u41" ∷ [])
-    ≡ codes "a\tb'" ∷ (65 ∷ 4 ∷ codes "g\\xg") ∷ codes "A1\\8\\q" ∷ codes "a" ∷ codes "\\u41" ∷ []
+    ≡ codes "a\tb'" ∷ (65 ∷ 4 ∷ codes "g\\xg") ∷ codes "A1\\8\\q" ∷ codes "ab" ∷ codes "\\u41" ∷ []
 unfolding grammar
 ansi_row = refl
 
 refused_escape_row : map has_refused_escape (codes "\\u41" ∷ codes "a\\cA" ∷ codes "\\\\u" ∷ codes "\\e" ∷ codes "\\0\\u41" ∷ [])
-    ≡ true ∷ true ∷ false ∷ false ∷ false ∷ []
+    ≡ true ∷ true ∷ false ∷ false ∷ true ∷ []
 unfolding grammar
 refused_escape_row = refl
 

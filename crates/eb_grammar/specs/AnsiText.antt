@@ -6,7 +6,7 @@ use Rattle.eb_bytes.specs.Text.{Text}
 use Rattle.eb_grammar.specs.declared.ansi.Base.{Base}
 use Rattle.eb_grammar.specs.declared.ansi.Base.TheVariants.{Octal, Hexadecimal}
 use Rattle.eb_grammar.specs.declared.ansi.Meaning.{Meaning}
-use Rattle.eb_grammar.specs.declared.ansi.Meaning.TheVariants.{Byte, End, Refused}
+use Rattle.eb_grammar.specs.declared.ansi.Meaning.TheVariants.{Byte, End, Nothing, Refused}
 use Rattle.eb_grammar.specs.Peg.{◌∈◌}
 
 -- the byte that a backslash and this letter stand for
@@ -48,9 +48,9 @@ value_from radix n (d ∷ ds) = value_from radix (n * radix + digit_value d) ds
 abbrev pub digits_at : Base → Text → Text
 digits_at base text = take_while (is_digit_of base) (take (most_digits base) text)
 
--- a number is a byte, modulo 256; the byte 0 ends the text
+-- a number is a byte, modulo 256; the byte 0, which no text holds, is nothing (own)
 abbrev pub meaning_of : ℕ → Meaning
-meaning_of n = if n % 256 == 0 then End else Byte (n % 256)
+meaning_of n = if n % 256 == 0 then Nothing else Byte (n % 256)
 
 -- A part of the text is what it means, and how many bytes it has.
 abbrev pub itself : ℕ → Meaning × ℕ
@@ -96,6 +96,7 @@ parts_from (suc n) text = before (part_of text).0 (parts_from n (drop (part_of t
 -- an escape that is refused stays as it is written
 abbrev pub made_by : Meaning → Text
 made_by (Byte b) = b ∷ []
+made_by Nothing = []
 made_by End = []
 made_by (Refused c) = 92 ∷ c ∷ []
 

@@ -51,7 +51,9 @@ impl From<Memory> for AnsiErr {
 pub enum Meaning {
     /// This byte.
     Byte(u8),
-    /// The text ends, as in bash where the byte 0 would stand.
+    /// Nothing: the byte 0 would stand there, which no text holds.
+    Nothing,
+    /// The text ends.
     End,
     /// A backslash and this letter, which are refused.
     Refused(u8),
@@ -125,6 +127,7 @@ pub fn ansi_text(alloc: Global, text: &[u8]) -> Result<Bytes, Memory>
         let (meaning, len) = part_of(rest);
         match meaning {
             Meaning::Byte(byte) => value.push(byte)?,
+            Meaning::Nothing => {}
             Meaning::Refused(letter) => value.extend(&[b'\\', letter])?,
             Meaning::End => return Ok(value),
         }
@@ -142,10 +145,12 @@ fn has_refused_escape(text: &[u8]) -> bool
     for _part in 0..text.len() {
         let (meaning, len) = part_of(rest);
         match meaning {
-            Meaning::Byte(_) => rest = &rest[len..],
+            Meaning::Byte(_) => {}
+            Meaning::Nothing => {}
             Meaning::Refused(_) => return true,
             Meaning::End => return false,
         }
+        rest = &rest[len..];
     }
     false
 }
@@ -208,7 +213,7 @@ fn number(radix: u8, digits: &[u8]) -> Meaning
         number = number.wrapping_mul(radix).wrapping_add(digit_value(*digit));
     }
     if number == 0 {
-        Meaning::End
+        Meaning::Nothing
     } else {
         Meaning::Byte(number)
     }

@@ -1,9 +1,9 @@
 use Rattle.std.proofs.Common.{◌≡◌, ◌-◌, ◌+◌, ◌++◌, [], ◌∷◌, take, drop, length, ap, sym, ◌∙◌, append_assoc, append-nil, arith}
 use Rattle.eb_bytes.specs.Text.{Text}
-use Rattle.eb_grammar.specs.declared.ansi.Meaning.TheVariants.{Byte, Refused}
+use Rattle.eb_grammar.specs.declared.ansi.Meaning.TheVariants.{Byte, Nothing, Refused}
 use Rattle.eb_grammar.specs.AnsiText.{ansi_text, made, parts_from}
 use Rattle.eb_grammar.proofs.AnsiParts.{last_part, other_part}
-use Rattle.eb_grammar.proofs.ansi.ansi_text.Goals.{in-Byte+in_ok-push-in-Byte, in-Refused+in_ok-extend-in-Refused}
+use Rattle.eb_grammar.proofs.ansi.ansi_text.Goals.{in-Byte+in_ok-push-in-Byte, in-Nothing, in-Refused+in_ok-extend-in-Refused}
 use Rattle.eb_grammar.proofs.ansi.ansi_text.Goals as goal
 
 pub returns-in-End : goal.returns-in-End
@@ -28,6 +28,11 @@ loop-part-preserved c =
           ∙ append_assoc value (w.in-Byte.byte ∷ []) left
           ∙ other_part (λ ms. value ++ made ms) text rest c.loop-part._part c.part_of-meaning.result (omega arith)
           c.part_of-meaning.ensures.part (Byte w.in-Byte.byte) w.in-Byte.is c.part_of-meaning.ensures.within
+          ∙ c.loop-part.invariant
+      | in-Nothing w ↦
+          ap (λ (v : Text). v ++ left) w.value-is
+          ∙ other_part (λ ms. value ++ made ms) text rest c.loop-part._part c.part_of-meaning.result (omega arith)
+          c.part_of-meaning.ensures.part Nothing w.in-Nothing.is c.part_of-meaning.ensures.within
           ∙ c.loop-part.invariant
       | in-Refused+in_ok-extend-in-Refused w ↦
           let extended : c.match-meaning.value ≡ value ++ 92 ∷ w.in-Refused.letter ∷ [] = w.value-is ∙ w.in_ok-extend-in-Refused.ensures.ok in
