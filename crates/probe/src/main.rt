@@ -38,7 +38,9 @@
 //! | `first EXTENDED MARKS TEXT FROM` | the first match from this place on, `BEGIN-END` or `none` |
 //! | `all EXTENDED MARKS TEXT` | all matches from left to right, `BEGIN-END` each, or `none` |
 //! | `vars CALL..` | what the calls answer, as the head of `data/variables.rows` says |
+//! | `funcs CALL..` | what the calls answer, as the head of `data/functions.rows` says |
 //! | `ansi TEXT`; `ansi_value TEXT` | what `$'..'` around the text stands for; `ok` and that, or `Quoting` |
+//! | `share KIND TEXT` | the kind and the text of what `share` gives of a tree of this kind and text |
 //! | `arith TEXT [steps LIMIT] [GIVEN]..` | `ok N` or the fault, `steps N`, then each variable given or set |
 //! | `read LEVELS TEXT` | `ok` and the number of an expression's instructions, or the refusal's name |
 //!
@@ -52,6 +54,7 @@ mod bytes;
 mod eapis;
 mod entries;
 mod fault;
+mod functions;
 mod marks;
 mod names;
 mod patterns;
@@ -62,6 +65,7 @@ mod rows;
 mod splits;
 mod text;
 mod token;
+mod trees;
 mod variables;
 mod versions;
 

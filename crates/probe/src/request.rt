@@ -4,12 +4,14 @@ use crate::bytes::{digest, read_digest, signed, unquoted, unsigned, words};
 use crate::eapis::{eapi, key, phase, phases};
 use crate::entries::{entry, make};
 use crate::fault::Fault;
+use crate::functions::funcs;
 use crate::names::{form, names, paths};
 use crate::patterns::{Search, find};
 use crate::quoting::{ansi, ansi_expanded};
 use crate::splits::split;
 use crate::text::read_texts;
 use crate::token::parts;
+use crate::trees::share;
 use crate::variables::vars;
 use crate::versions::{cut, rs, test, version};
 use eb_bytes::Bytes;
@@ -43,6 +45,8 @@ fn answer_fields(request: &[u8], fields: &[&[u8]], answer: &mut Answer) -> Resul
         b"first" => find(Search::First, fields, answer),
         b"all" => find(Search::All, fields, answer),
         b"vars" => vars(fields, answer),
+        b"funcs" => funcs(fields, answer),
+        b"share" => share(fields, answer),
         b"make" => make(fields, answer),
         b"arith" => arith(fields, answer),
         b"read" => read(fields, answer),
