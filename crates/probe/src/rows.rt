@@ -42,7 +42,7 @@ fn check_file(
             continue;
         }
         count.rows = count.rows.saturating_add(1);
-        if !check_line(rt, file, above, line)? {
+        if !check_line(rt, file, above.saturating_add(1), line)? {
             count.differ = count.differ.saturating_add(1);
         }
     }
@@ -53,18 +53,18 @@ fn check_file(
 fn check_line(
     rt: &(impl Print + AllocGlobal),
     file: &str,
-    above: usize,
+    number: usize,
     line: &[u8],
 ) -> io::Result<bool> {
     let Some((request, wanted)) = halves(line) else {
-        println!(rt; "{file}:{}: not a row", above + 1)?;
+        println!(rt; "{file}:{number}: not a row")?;
         return Ok(false);
     };
     match agrees(rt.alloc(), request, wanted) {
         Ok(true) => return Ok(true),
-        Ok(false) => print_difference(rt, file, above, request, wanted)?,
+        Ok(false) => print_difference(rt, file, number, request, wanted)?,
         Err(Fault::Memory) => return Err(AllocError.into()),
-        Err(_) => println!(rt; "{file}:{}: not an answer", above + 1)?,
+        Err(_) => println!(rt; "{file}:{number}: not an answer")?,
     }
     Ok(false)
 }
@@ -82,14 +82,14 @@ fn agrees(alloc: Global, request: &[u8], wanted: &[u8]) -> Result<bool, Fault> {
 fn print_difference(
     rt: &(impl Print + AllocGlobal),
     file: &str,
-    above: usize,
+    number: usize,
     request: &[u8],
     wanted: &[u8],
 ) -> io::Result<()> {
     let wanted = String::from_utf8_lossy(rt.alloc(), wanted)?;
     let came = answer(rt.alloc(), request, Style::Readable);
     let came = came.finished().unwrap_or("out of memory");
-    println!(rt; "{file}:{}: wanted {wanted}, came {came}", above + 1)
+    println!(rt; "{file}:{number}: wanted {wanted}, came {came}")
 }
 
 // The request and the answer of a row.
