@@ -106,7 +106,13 @@ held vars funcs budget context pending =
 -- a state with what a host works on and these options, and with all else of another state
 abbrev pub seen : Held → Opts → State → State
 seen held opts rest =
-    record rest { store = held.vars.present; funcs = held.funcs.present; opts = opts; host = held.context; left = left held.budget }
+    record rest {
+      store = held.vars.present;
+      funcs = held.funcs.present;
+      opts = opts;
+      host = held.context;
+      left = left held.budget;
+    }
 
 -- what opened the frames, and what the ends of open subshells bring back, is as it was
 pub record KeepsFrames (vars : Stores) (funcs : Tables) (vars-after : Stores) (funcs-after : Tables) : Type 0 where
@@ -117,9 +123,11 @@ pub record KeepsFrames (vars : Stores) (funcs : Tables) (vars-after : Stores) (f
 -- what `begin` says: the answer is what the command does, whatever else the state has
 abbrev pub DoesBegin : Result HostStep Stop → (State → Begun) → Opts → (old new : Held) → Type 0
 DoesBegin result command opts old new =
-    (rest : State) → Answers result (command (seen old opts rest)) (seen old opts rest) (seen new opts rest) old.pending new.pending
+    (rest : State)
+    → Answers result (command (seen old opts rest)) (seen old opts rest) (seen new opts rest) old.pending new.pending
 
 -- what `finish` says: the answer is what the command that handed out the innermost open script does at its end
 abbrev pub DoesFinish : Result HostStep Stop → (status : ℕ) → Opts → (old new : Held) → Type 0
 DoesFinish result status opts old new =
-    (rest : State) → Resumes result (seen old opts (ended status rest)) (seen new opts (ended status rest)) old.pending new.pending
+    (rest : State)
+    → Resumes result (seen old opts (ended status rest)) (seen new opts (ended status rest)) old.pending new.pending

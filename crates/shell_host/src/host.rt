@@ -75,8 +75,13 @@ pub trait Host {
         budget: &mut Budget,
         steps: &mut Steps<L>,
     ) -> Result<HostStep, Stop>
-        ensures means { (b : Begins) → commands self.old ≡ Some b → DoesBegin result (b call.now.plain call.now.name.now call.now.args.now) opts.now (held vars.old funcs.old budget.old (context self.old) (pending self.old)) (held vars.new funcs.new budget.new (context self.new) (pending self.new)) }
-        ensures not_mine { result ≡ Ok HostStep.NotMine → held vars.new funcs.new budget.new (context self.new) (pending self.new) ≡ held vars.old funcs.old budget.old (context self.old) (pending self.old) }
+        ensures means { (b : Begins) → commands self.old ≡ Some b →
+            DoesBegin result (b call.now.plain call.now.name.now call.now.args.now) opts.now
+            (held vars.old funcs.old budget.old (context self.old) (pending self.old))
+            (held vars.new funcs.new budget.new (context self.new) (pending self.new)) }
+        ensures not_mine { result ≡ Ok HostStep.NotMine →
+            held vars.new funcs.new budget.new (context self.new) (pending self.new)
+            ≡ held vars.old funcs.old budget.old (context self.old) (pending self.old) }
         ensures not_asked { result ≡ Ok HostStep.NotMine → may_fail self.new ≡ may_fail self.old }
         ensures scripts { Opens result (pending self.old) (pending self.new) }
         ensures frames { OnOk result (KeepsFrames vars.old funcs.old vars.new funcs.new) }
@@ -103,7 +108,9 @@ pub trait Host {
         steps: &mut Steps<L>,
     ) -> Result<HostStep, Stop>
         requires { opened_before (saved self.old) < length (pending self.old) }
-        ensures means { IsSome (commands self.old) → DoesFinish result status opts.now (held vars.old funcs.old budget.old (context self.old) (pending self.old)) (held vars.new funcs.new budget.new (context self.new) (pending self.new)) }
+        ensures means { IsSome (commands self.old) → DoesFinish result status opts.now
+            (held vars.old funcs.old budget.old (context self.old) (pending self.old))
+            (held vars.new funcs.new budget.new (context self.new) (pending self.new)) }
         ensures mine { result ≢ Ok HostStep.NotMine }
         ensures scripts { Closes result (pending self.old) (pending self.new) }
         ensures frames { OnOk result (KeepsFrames vars.old funcs.old vars.new funcs.new) }
@@ -138,5 +145,6 @@ pub trait Host {
         ensures may_fail { may_fail self.new ≡ may_fail self.old };
 
     /// Its commands give no steps back and lose no name that was asked.
-    ghost lasts: { (host : Self) (b : Begins) → commands host ≡ Some b → (plain : Bool) (name : Text) (args : List Text) (at : State) → Lasts at (b plain name args at) };
+    ghost lasts: { (host : Self) (b : Begins) → commands host ≡ Some b →
+        (plain : Bool) (name : Text) (args : List Text) (at : State) → Lasts at (b plain name args at) };
 }
