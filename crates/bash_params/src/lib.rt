@@ -3,6 +3,7 @@
 #![tactic(auto)]
 
 mod case;
+mod cost;
 mod cuts;
 mod error;
 mod operator;
@@ -12,6 +13,7 @@ mod slices;
 mod stripping;
 
 pub use case::change_case;
+pub use cost::{match_cost, replace_cost};
 pub use cuts::substring;
 pub use error::ParamErr;
 pub use operator::{CaseOp, Replace, Strip};
