@@ -8,7 +8,7 @@ use eb_bytes::{Bytes, Memory, is_lower, is_upper};
 use std::alloc::Global;
 
 // What letters are made.
-#[derive(Clone, Copy, Debug, PartialEq, Eq)]
+#[derive(Clone, Copy)]
 pub(crate) enum Case {
     Upper,
     Lower,

@@ -1,5 +1,5 @@
 /// Which part of a text a strip takes away.
-#[derive(Clone, Copy, Debug, PartialEq, Eq)]
+#[derive(Clone, Copy)]
 pub enum Strip {
     /// `#`: the shortest prefix that the pattern matches.
     ShortPrefix,
@@ -12,7 +12,7 @@ pub enum Strip {
 }
 
 /// Which matches a replacement takes.
-#[derive(Clone, Copy, Debug, PartialEq, Eq)]
+#[derive(Clone, Copy)]
 pub enum Replace {
     /// `/`: the leftmost, and there the longest.
     First,
@@ -25,7 +25,7 @@ pub enum Replace {
 }
 
 /// Which bytes a case operator changes, and to which case.
-#[derive(Clone, Copy, Debug, PartialEq, Eq)]
+#[derive(Clone, Copy)]
 pub enum CaseOp {
     /// `^`: the first byte, to upper case.
     UpFirst,
