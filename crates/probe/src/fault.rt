@@ -1,12 +1,14 @@
 use eb_bytes::Memory;
 use std::alloc::{AllocError, AllocFailed};
 
-/// Why a request has no answer of its own.
-#[derive(Clone, Copy, Debug, PartialEq, Eq)]
+/// Why there is no answer in the form that the request has.
+#[derive(Clone, Copy)]
 pub enum Fault {
     /// The line is no request.
     NoRequest,
-    /// There was no room.
+    /// A library refused the call, for any reason but out of memory; this word says why.
+    Refused(&'static str),
+    /// Out of memory.
     Memory,
 }
 

@@ -10,8 +10,8 @@
 //! says how often it stands there. Answers to standard input write texts in hexadecimal.
 //!
 //! A list of marks is its marks joined by commas, `-` where it is empty: `L` and a text for literals, `R` for bytes of
-//! a result, `Q` for quoted bytes, `E` for empty quotes, `B` for a break; `64*` may stand before one. Answers write each
-//! mark alone, its byte in hexadecimal. A name of a variable is written as it is.
+//! a result, `Q` for quoted bytes, `E` for empty quotes, `B` for a break; `64*` may stand before one. Answers write
+//! each mark alone, its byte in hexadecimal. A name of a variable is written as it is.
 //!
 //! | request | answer |
 //! |---|---|
@@ -25,6 +25,7 @@
 //! | `phases EAPI` | the names of its phase functions, in the order of the phases; `none` |
 //! | `eclass TEXT` | whether it has the form of an eclass's name, `yes` or `no` |
 //! | `entry TEXT` | `ok` and the text that writing the entry gives, or `bad` |
+//! | `make TEXT [KEY=TEXT].. [ECLASS=TEXT]..` | `ok` and the entry of this ebuild and its eclasses, or `incomplete` |
 //! | `version A B` | `less`, `equal` or `greater`; `none` where one is no version |
 //! | `cut RANGE V`; `rs V [RANGE SEP]..` | `ok TEXT`, or the error's name |
 //! | `test A OP B` | `true`, `false`, or the error's name |
@@ -37,6 +38,9 @@
 //! | `first EXTENDED MARKS TEXT FROM` | the first match from this place on, `BEGIN-END` or `none` |
 //! | `all EXTENDED MARKS TEXT` | all matches from left to right, `BEGIN-END` each, or `none` |
 //! | `vars CALL..` | what the calls answer, as the head of `data/variables.rows` says |
+//! | `funcs CALL..` | what the calls answer, as the head of `data/functions.rows` says |
+//! | `ansi TEXT`; `ansi_value TEXT` | what `$'..'` around the text stands for; `ok` and that, or `Quoting` |
+//! | `share KIND TEXT` | the kind and the text of what `share` gives of a tree of this kind and text |
 //! | `arith TEXT [steps LIMIT] [GIVEN]..` | `ok N` or the fault, `steps N`, then each variable given or set |
 //! | `read LEVELS TEXT` | `ok` and the number of an expression's instructions, or the refusal's name |
 //!
@@ -50,15 +54,18 @@ mod bytes;
 mod eapis;
 mod entries;
 mod fault;
+mod functions;
 mod marks;
 mod names;
 mod patterns;
 mod place;
+mod quoting;
 mod request;
 mod rows;
 mod splits;
 mod text;
 mod token;
+mod trees;
 mod variables;
 mod versions;
 
@@ -71,12 +78,17 @@ use std::{env, io};
 
 fn answer_lines(rt: &HostRuntime) -> io::Result<()> {
     for line in rt.lines(rt.alloc()) {
-        let line = line?;
-        let answer = answer(rt.alloc(), line.as_str().as_bytes(), Style::Hexadecimal);
-        let answer = answer.map_err(|_| AllocError)?;
-        println!(rt; "{}", answer.line())?;
+        print_answer(rt, line?.as_str())?;
     }
     Ok(())
+}
+
+fn print_answer(rt: &HostRuntime, line: &str) -> io::Result<()> {
+    let answer = answer(rt.alloc(), line.as_bytes(), Style::Hexadecimal);
+    match answer.finished() {
+        Ok(line) => println!(rt; "{line}"),
+        Err(_) => Err(AllocError.into()),
+    }
 }
 
 fn run(rt: &HostRuntime) -> io::Result<ExitCode> {

@@ -9,20 +9,29 @@ use std::alloc::Global;
 /// `B` a break, each perhaps with how often it stands there, as in `64*L"@("`.
 pub fn read_marks(alloc: Global, field: &[u8]) -> Result<Marked, Fault> {
     let mut marks = Marked::new(alloc);
-    if field == b"-".as_slice() {
-        return Ok(marks);
-    }
-    for part in parts(alloc, field, b',')? {
-        let (count, part) = counted(part)?;
-        for _ in 0..count {
-            push_part(alloc, &mut marks, part)?;
-        }
+    if field != b"-".as_slice() {
+        push_field(alloc, field, &mut marks)?;
     }
     Ok(marks)
 }
 
-// Puts the marks of a part without a count at the end.
-fn push_part(alloc: Global, marks: &mut Marked, part: &[u8]) -> Result<(), Fault> {
+fn push_field(alloc: Global, field: &[u8], marks: &mut Marked) -> Result<(), Fault> {
+    for part in parts(alloc, field, b',')? {
+        push_counted(alloc, part, marks)?;
+    }
+    Ok(())
+}
+
+fn push_counted(alloc: Global, part: &[u8], marks: &mut Marked) -> Result<(), Fault> {
+    let (count, part) = counted(part)?;
+    for _ in 0..count {
+        push_mark(alloc, part, marks)?;
+    }
+    Ok(())
+}
+
+// Puts what stands without a count at the end: one mark, or a text's.
+fn push_mark(alloc: Global, part: &[u8], marks: &mut Marked) -> Result<(), Fault> {
     match part {
         [b'E'] => marks.push(Mark::Empty)?,
         [b'B'] => marks.push(Mark::Break)?,
@@ -30,12 +39,15 @@ fn push_part(alloc: Global, marks: &mut Marked, part: &[u8]) -> Result<(), Fault
             let byte = read_byte(*high, *low).ok_or(Fault::NoRequest)?;
             marks.push(origin_of(*kind)?.mark(byte))?;
         }
-        [kind, text @ ..] => {
-            let text = read_part(alloc, text)?;
-            marks.extend(text.as_slice(), origin_of(*kind)?)?;
-        }
+        [kind, text @ ..] => push_text(alloc, origin_of(*kind)?, text, marks)?,
         [] => return Err(Fault::NoRequest),
     }
+    Ok(())
+}
+
+fn push_text(alloc: Global, origin: Origin, part: &[u8], marks: &mut Marked) -> Result<(), Fault> {
+    let text = read_part(alloc, part)?;
+    marks.extend(text.as_slice(), origin)?;
     Ok(())
 }
 
@@ -46,29 +58,4 @@ fn origin_of(kind: u8) -> Result<Origin, Fault> {
         b'Q' => Ok(Origin::Quoted),
         _ => Err(Fault::NoRequest),
     }
-}
-
-/// Writes marks at the end of a line.
-pub fn push_marks(line: &mut String, marks: &[Mark]) -> Result<(), Fault> {
-    if marks.is_empty() {
-        line.push_str("-")?;
-    }
-    for (place, mark) in marks.iter().enumerate() {
-        if place > 0 {
-            line.push_str(",")?;
-        }
-        push_mark(line, *mark)?;
-    }
-    Ok(())
-}
-
-fn push_mark(line: &mut String, mark: Mark) -> Result<(), Fault> {
-    match mark {
-        Mark::Literal(byte) => write!(line, "L{byte:02x}")?,
-        Mark::Result(byte) => write!(line, "R{byte:02x}")?,
-        Mark::Quoted(byte) => write!(line, "Q{byte:02x}")?,
-        Mark::Empty => line.push_str("E")?,
-        Mark::Break => line.push_str("B")?,
-    }
-    Ok(())
 }

@@ -4,7 +4,7 @@ use eb_bytes::{is_name, read_signed};
 use shell_vars::VarErr;
 
 /// A variable, or an element of one.
-#[derive(Clone, Copy, Debug)]
+#[derive(Clone, Copy)]
 pub struct Place<'a> {
     pub name: &'a [u8],
     pub subscript: Option<i64>,
@@ -39,14 +39,15 @@ pub fn read_name(field: &[u8]) -> Result<&[u8], Fault> {
     }
 }
 
-/// The name of a refusal.
-pub fn refusal_word(refusal: VarErr) -> Result<&'static str, Fault> {
-    match refusal {
-        VarErr::Readonly => Ok("Readonly"),
-        VarErr::LocalOutside => Ok("LocalOutside"),
-        VarErr::BadSubscript => Ok("BadSubscript"),
-        VarErr::ValueSize => Ok("ValueSize"),
-        VarErr::TotalSize => Ok("TotalSize"),
-        VarErr::Memory => Err(Fault::Memory),
+impl From<VarErr> for Fault {
+    fn from(refusal: VarErr) -> Fault {
+        match refusal {
+            VarErr::Readonly => Fault::Refused("Readonly"),
+            VarErr::LocalOutside => Fault::Refused("LocalOutside"),
+            VarErr::BadSubscript => Fault::Refused("BadSubscript"),
+            VarErr::ValueSize => Fault::Refused("ValueSize"),
+            VarErr::TotalSize => Fault::Refused("TotalSize"),
+            VarErr::Memory => Fault::Memory,
+        }
     }
 }

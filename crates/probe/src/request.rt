@@ -1,84 +1,99 @@
 use crate::answer::{Answer, Style};
 use crate::arithmetic::{arith, read};
-use crate::bytes::{digest, name, read_digest, signed, unquoted, unsigned, words};
-use crate::eapis::{eapi, eclass, key, phase, phases};
-use crate::entries::entry;
+use crate::bytes::{digest, read_digest, signed, unquoted, unsigned, words};
+use crate::eapis::{eapi, key, phase, phases};
+use crate::entries::{entry, make};
 use crate::fault::Fault;
-use crate::names::{category, flag, names, package, paths};
-use crate::patterns::{all, first, match_pattern, matches};
+use crate::functions::funcs;
+use crate::names::{form, names, paths};
+use crate::patterns::{Search, find};
+use crate::quoting::{ansi, ansi_expanded};
 use crate::splits::split;
 use crate::text::read_texts;
 use crate::token::parts;
+use crate::trees::share;
 use crate::variables::vars;
 use crate::versions::{cut, rs, test, version};
-use eb_bytes::{Bytes, Memory};
+use eb_bytes::Bytes;
 use std::alloc::Global;
 
 /// The answer to a line.
-pub fn answer(alloc: Global, line: &[u8], style: Style) -> Result<Answer, Memory> {
+pub fn answer(alloc: Global, line: &[u8], style: Style) -> Answer {
     let mut answer = Answer::new(alloc, style);
-    match put_answer(line, &mut answer) {
-        Ok(()) => Ok(answer),
-        Err(Fault::NoRequest) => no_request(alloc, style),
-        Err(Fault::Memory) => Err(Memory),
+    if let Err(fault) = answer_line(line, &mut answer) {
+        answer.fail(fault);
     }
+    answer
 }
 
-fn no_request(alloc: Global, style: Style) -> Result<Answer, Memory> {
-    let mut answer = Answer::new(alloc, style);
-    match answer.word("what") {
-        Ok(()) => Ok(answer),
-        Err(_) => Err(Memory),
-    }
-}
-
-fn put_answer(line: &[u8], answer: &mut Answer) -> Result<(), Fault> {
+fn answer_line(line: &[u8], answer: &mut Answer) -> Result<(), Fault> {
     let mut fields = parts(answer.alloc(), line, b' ')?;
     fields.retain(|field| !field.is_empty());
-    let [request, fields @ ..] = fields.as_slice() else {
-        return Err(Fault::NoRequest);
-    };
-    match *request {
+    match fields.as_slice() {
+        [request, fields @ ..] => answer_fields(request, fields, answer),
+        [] => Err(Fault::NoRequest),
+    }
+}
+
+// Answers a request whose fields are not all texts.
+fn answer_fields(request: &[u8], fields: &[&[u8]], answer: &mut Answer) -> Result<(), Fault> {
+    match request {
         b"unquoted" => unquoted(fields, answer),
         b"split" => split(fields, answer),
-        b"match" => match_pattern(fields, answer),
-        b"matches" => matches(fields, answer),
-        b"first" => first(fields, answer),
-        b"all" => all(fields, answer),
+        b"match" => find(Search::Each, fields, answer),
+        b"matches" => find(Search::Whole, fields, answer),
+        b"first" => find(Search::First, fields, answer),
+        b"all" => find(Search::All, fields, answer),
         b"vars" => vars(fields, answer),
+        b"funcs" => funcs(fields, answer),
+        b"share" => share(fields, answer),
+        b"make" => make(fields, answer),
         b"arith" => arith(fields, answer),
         b"read" => read(fields, answer),
         request => {
             let texts = read_texts(answer.alloc(), fields)?;
-            put_answer_to_texts(request, texts.as_slice(), answer)
+            answer_texts(request, texts.as_slice(), answer)
         }
     }
 }
 
-// The answers to requests whose fields are all texts.
-fn put_answer_to_texts(request: &[u8], texts: &[Bytes], answer: &mut Answer) -> Result<(), Fault> {
+// Answers a request whose fields are texts.
+fn answer_texts(request: &[u8], texts: &[Bytes], answer: &mut Answer) -> Result<(), Fault> {
+    match (request, texts) {
+        (b"rs", [v, pairs @ ..]) => rs(v.as_slice(), pairs, answer),
+        (b"names", [category, package, file]) => names([category, package, file], answer),
+        (b"paths", [a, b, c, d, e, f]) => paths([a, b, c], [d, e, f], answer),
+        (b"test", [a, op, b]) => test(a.as_slice(), op.as_slice(), b.as_slice(), answer),
+        (request, [text]) => answer_text(request, text.as_slice(), answer),
+        (request, [a, b]) => answer_two(request, a.as_slice(), b.as_slice(), answer),
+        _ => Err(Fault::NoRequest),
+    }
+}
+
+// Answers a request of one text.
+fn answer_text(request: &[u8], text: &[u8], answer: &mut Answer) -> Result<(), Fault> {
     match request {
-        b"words" => words(texts, answer),
-        b"unsigned" => unsigned(texts, answer),
-        b"signed" => signed(texts, answer),
-        b"name" => name(texts, answer),
-        b"digest" => digest(texts, answer),
-        b"read_digest" => read_digest(texts, answer),
-        b"eapi" => eapi(texts, answer),
-        b"key" => key(texts, answer),
-        b"phase" => phase(texts, answer),
-        b"phases" => phases(texts, answer),
-        b"eclass" => eclass(texts, answer),
-        b"entry" => entry(texts, answer),
-        b"version" => version(texts, answer),
-        b"cut" => cut(texts, answer),
-        b"rs" => rs(texts, answer),
-        b"test" => test(texts, answer),
-        b"names" => names(texts, answer),
-        b"paths" => paths(texts, answer),
-        b"category" => category(texts, answer),
-        b"package" => package(texts, answer),
-        b"flag" => flag(texts, answer),
+        b"words" => words(text, answer),
+        b"unsigned" => unsigned(text, answer),
+        b"signed" => signed(text, answer),
+        b"digest" => digest(text, answer),
+        b"read_digest" => read_digest(text, answer),
+        b"eapi" => eapi(text, answer),
+        b"phases" => phases(text, answer),
+        b"entry" => entry(text, answer),
+        b"ansi" => ansi(text, answer),
+        b"ansi_value" => ansi_expanded(text, answer),
+        request => form(request, text, answer),
+    }
+}
+
+// Answers a request of two texts.
+fn answer_two(request: &[u8], a: &[u8], b: &[u8], answer: &mut Answer) -> Result<(), Fault> {
+    match request {
+        b"key" => key(a, b, answer),
+        b"phase" => phase(a, b, answer),
+        b"version" => version(a, b, answer),
+        b"cut" => cut(a, b, answer),
         _ => Err(Fault::NoRequest),
     }
 }

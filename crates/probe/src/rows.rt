@@ -1,8 +1,8 @@
-use crate::answer::Style;
+use crate::answer::{Answer, Style};
 use crate::fault::Fault;
-use crate::marks::{push_marks, read_marks};
+use crate::marks::read_marks;
 use crate::request::answer;
-use crate::text::{push_hexadecimal, read_text};
+use crate::text::read_text;
 use crate::token::{End, split_before};
 use eb_bytes::Memory;
 use std::alloc::{AllocError, Global};
@@ -10,7 +10,7 @@ use std::rt::Files;
 use std::{fs, io};
 
 /// How many rows there were, and how many of them differ.
-#[derive(Clone, Copy, Debug)]
+#[derive(Clone, Copy)]
 pub struct Count {
     pub rows: u64,
     pub differ: u64,
@@ -42,65 +42,96 @@ fn check_file(
             continue;
         }
         count.rows = count.rows.saturating_add(1);
-        let difference = difference(rt.alloc(), line).map_err(|_| AllocError)?;
-        if let Some(difference) = difference {
-            println!(rt; "{file}:{}: {difference}", above + 1)?;
+        if !check_line(rt, file, above, line)? {
             count.differ = count.differ.saturating_add(1);
         }
     }
     Ok(())
 }
 
-// How a row differs from its answer, if it does. A line that is no row differs.
-fn difference(alloc: Global, line: &[u8]) -> Result<Option<String>, Memory> {
+// Whether the line is a row that agrees with its answer; if not, that is printed.
+fn check_line(
+    rt: &(impl Print + AllocGlobal),
+    file: &str,
+    above: usize,
+    line: &[u8],
+) -> io::Result<bool> {
     let Some((request, wanted)) = halves(line) else {
-        return Ok(Some(String::from_str(alloc, "not a row")?));
+        println!(rt; "{file}:{}: not a row", above + 1)?;
+        return Ok(false);
     };
-    let plain = match plain(alloc, wanted) {
-        Ok(plain) => plain,
-        Err(Fault::NoRequest) => return Ok(Some(String::from_str(alloc, "not an answer")?)),
-        Err(Fault::Memory) => return Err(Memory),
-    };
-    let came = answer(alloc, request, Style::Hexadecimal)?;
-    if came.line() == plain.as_str() {
-        return Ok(None);
+    match agrees(rt.alloc(), request, wanted) {
+        Ok(true) => return Ok(true),
+        Ok(false) => print_difference(rt, file, above, request, wanted)?,
+        Err(Fault::Memory) => return Err(AllocError.into()),
+        Err(_) => println!(rt; "{file}:{}: not an answer", above + 1)?,
     }
-    let came = answer(alloc, request, Style::Readable)?;
-    let wanted = String::from_utf8_lossy(alloc, wanted)?;
-    Ok(Some(format!(in alloc; "wanted {wanted}, came {}", came.line())?))
+    Ok(false)
+}
+
+// Whether the answer to the request is the one that is wanted; `NoRequest` where that is written as no answer is.
+fn agrees(alloc: Global, request: &[u8], wanted: &[u8]) -> Result<bool, Fault> {
+    let plain = plain(alloc, wanted)?;
+    let came = answer(alloc, request, Style::Hexadecimal);
+    match (came.finished(), plain.finished()) {
+        (Ok(came), Ok(plain)) => Ok(came == plain),
+        _ => Err(Fault::Memory),
+    }
+}
+
+fn print_difference(
+    rt: &(impl Print + AllocGlobal),
+    file: &str,
+    above: usize,
+    request: &[u8],
+    wanted: &[u8],
+) -> io::Result<()> {
+    let wanted = String::from_utf8_lossy(rt.alloc(), wanted)?;
+    let came = answer(rt.alloc(), request, Style::Readable);
+    let came = came.finished().unwrap_or("out of memory");
+    println!(rt; "{file}:{}: wanted {wanted}, came {came}", above + 1)
 }
 
 // The request and the answer of a row.
 fn halves(line: &[u8]) -> Option<(&[u8], &[u8])> {
-    let (request, after) = split_before(line, End::Text(b" => "));
-    Some((request, after.strip_prefix(b" => ")?))
+    match split_before(line, End::Text(b" => ")) {
+        (request, [b' ', b'=', b'>', b' ', wanted @ ..]) => Some((request, wanted)),
+        _ => None,
+    }
 }
 
 // An answer with its texts and marks in hexadecimal.
-fn plain(alloc: Global, answer: &[u8]) -> Result<String, Fault> {
-    let mut plain = String::new(alloc);
-    let mut rest = answer;
-    for _ in 0..=answer.len() {
-        let (part, after) = split_before(rest, End::OneOf(b" ,=()"));
-        push_plain(alloc, &mut plain, part)?;
-        let [joint, others @ ..] = after else {
-            break;
-        };
-        plain.push(char::from(*joint))?;
-        rest = others;
-    }
+fn plain(alloc: Global, wanted: &[u8]) -> Result<Answer, Fault> {
+    let mut plain = Answer::new(alloc, Style::Hexadecimal);
+    push_plain(wanted, &mut plain)?;
     Ok(plain)
 }
 
-fn push_plain(alloc: Global, plain: &mut String, part: &[u8]) -> Result<(), Fault> {
-    if !part.contains(&b'"') {
-        for byte in part {
-            plain.push(char::from(*byte))?;
-        }
-        return Ok(());
+fn push_plain(wanted: &[u8], plain: &mut Answer) -> Result<(), Fault> {
+    let mut rest = wanted;
+    for _ in 0..=wanted.len() {
+        let (part, after) = split_before(rest, End::OneOf(b" ,=()"));
+        push_part(part, plain)?;
+        let [joint, others @ ..] = after else {
+            break;
+        };
+        plain.push_name(&[*joint]);
+        rest = others;
     }
+    Ok(())
+}
+
+fn push_part(part: &[u8], plain: &mut Answer) -> Result<(), Fault> {
     match part {
-        [b'L' | b'R' | b'Q', ..] => push_marks(plain, read_marks(alloc, part)?.as_slice()),
-        _ => push_hexadecimal(alloc, plain, read_text(alloc, part)?.as_slice()),
+        part if !part.contains(&b'"') => plain.push_name(part),
+        [b'L' | b'R' | b'Q', ..] => {
+            let marks = read_marks(plain.alloc(), part)?;
+            plain.push_marks(marks.as_slice());
+        }
+        part => {
+            let text = read_text(plain.alloc(), part)?;
+            plain.push_text(text.as_slice());
+        }
     }
+    Ok(())
 }

@@ -2,24 +2,27 @@ use crate::answer::Answer;
 use crate::fault::Fault;
 use crate::marks::read_marks;
 use crate::text::read_text;
+use eb_bytes::Marked;
 
 /// `split IFS MARKS`: the fields as lists of marks, `.` for a field without marks; `-` where there is no field.
 pub fn split(fields: &[&[u8]], answer: &mut Answer) -> Result<(), Fault> {
     let [ifs, marks] = fields else {
         return Err(Fault::NoRequest);
     };
-    let alloc = answer.alloc();
-    let ifs = read_text(alloc, ifs)?;
-    let marks = read_marks(alloc, marks)?;
-    for field in bash_split::split(alloc, &marks, ifs.as_slice())? {
-        if field.as_slice().is_empty() {
-            answer.word(".")?;
-        } else {
-            answer.marks(field.as_slice())?;
+    let marks = read_marks(answer.alloc(), marks)?;
+    let ifs = read_text(answer.alloc(), ifs)?;
+    split_marks(&marks, ifs.as_slice(), answer)
+}
+
+fn split_marks(marks: &Marked, ifs: &[u8], answer: &mut Answer) -> Result<(), Fault> {
+    for field in bash_split::split(answer.alloc(), marks, ifs)? {
+        match field.as_slice() {
+            [] => answer.word("."),
+            marks => answer.marks(marks),
         }
     }
     if answer.is_empty() {
-        answer.word("-")?;
+        answer.word("-");
     }
     Ok(())
 }

@@ -1,33 +1,15 @@
 ghost use Rattle.std.specs.Prelude.{◌<◌, ◌≤◌, IfSome, length};
 
 use crate::fault::Fault;
-use crate::token::parts;
-use eb_bytes::{Bytes, is_digit, is_upper, read_decimal};
-use hex::FromHexError;
+use crate::token::{cut, parts};
+use eb_bytes::{Bytes, read_decimal};
 use std::alloc::Global;
 
 /// The text that a field stands for: texts joined by `+`, each perhaps with how often it stands there, as in
 /// `"a"+64*"b"`. A text is lower-case hexadecimal, `-` where it is empty, or readable in double quotes.
 pub fn read_text(alloc: Global, field: &[u8]) -> Result<Bytes, Fault> {
     let mut text = Bytes::new(alloc);
-    for part in parts(alloc, field, b'+')? {
-        let (count, part) = counted(part)?;
-        let part = read_part(alloc, part)?;
-        text.extend(repeated(alloc, part.as_slice(), count)?.as_slice())?;
-    }
-    Ok(text)
-}
-
-// The text that stands so often, by doubling it for each bit of the number.
-fn repeated(alloc: Global, part: &[u8], count: u64) -> Result<Bytes, Fault> {
-    let mut text = Bytes::new(alloc);
-    for bit in 0..64u32 {
-        let half = text.copy(alloc)?;
-        text.extend(half.as_slice())?;
-        if (count >> (63 - bit)) & 1 == 1 {
-            text.extend(part)?;
-        }
-    }
+    push_field(alloc, field, &mut text)?;
     Ok(text)
 }
 
@@ -40,62 +22,87 @@ pub fn read_texts(alloc: Global, fields: &[&[u8]]) -> Result<Vec<Bytes>, Fault> 
     Ok(texts)
 }
 
+fn push_field(alloc: Global, field: &[u8], text: &mut Bytes) -> Result<(), Fault> {
+    for part in parts(alloc, field, b'+')? {
+        push_counted(alloc, part, text)?;
+    }
+    Ok(())
+}
+
+fn push_counted(alloc: Global, part: &[u8], text: &mut Bytes) -> Result<(), Fault> {
+    let (count, part) = counted(part)?;
+    let once = read_part(alloc, part)?;
+    for _ in 0..count {
+        text.extend(once.as_slice())?;
+    }
+    Ok(())
+}
+
 /// How often something stands, and what: `64*` in front says so, and it stands once where nothing does.
 pub fn counted(part: &[u8]) -> Result<(u64, &[u8]), Fault> {
-    let digits = part.iter().take_while(|byte| is_digit(**byte)).count();
-    match part.split_at(digits) {
-        (count, [b'*', rest @ ..]) => {
-            let count = read_decimal(count).ok_or(Fault::NoRequest)?;
-            Ok((count, rest))
-        }
-        _ => Ok((1, part)),
+    match cut(part, b'*') {
+        Some((count, part)) => Ok((read_decimal(count).ok_or(Fault::NoRequest)?, part)),
+        None => Ok((1, part)),
     }
 }
 
 /// A text in hexadecimal or in double quotes, alone.
 pub fn read_part(alloc: Global, part: &[u8]) -> Result<Bytes, Fault> {
-    match part {
-        [b'"', inner @ .., b'"'] => read_quoted(alloc, inner),
-        [b'-'] => Ok(Bytes::new(alloc)),
-        digits => read_hexadecimal(alloc, digits),
-    }
-}
-
-fn read_hexadecimal(alloc: Global, digits: &[u8]) -> Result<Bytes, Fault> {
-    if digits.is_empty() || digits.iter().any(|digit| is_upper(*digit)) {
-        return Err(Fault::NoRequest);
-    }
-    match hex::decode(alloc, digits) {
-        Ok(text) => Ok(Bytes::from_slice(alloc, text.as_slice())?),
-        Err(FromHexError::OutOfMemory) => Err(Fault::Memory),
-        Err(_) => Err(Fault::NoRequest),
-    }
-}
-
-// The text that stands between double quotes.
-fn read_quoted(alloc: Global, inner: &[u8]) -> Result<Bytes, Fault> {
     let mut text = Bytes::new(alloc);
-    let mut rest = inner;
-    for _ in 0..inner.len() {
-        if rest.is_empty() {
-            break;
-        }
-        let (byte, others) = first_byte(rest).ok_or(Fault::NoRequest)?;
-        text.push(byte)?;
-        rest = others;
-    }
+    push_part(part, &mut text)?;
     Ok(text)
 }
 
+fn push_part(part: &[u8], text: &mut Bytes) -> Result<(), Fault> {
+    match part {
+        [b'"', inner @ .., b'"'] => push_bytes(inner, Form::Readable, text),
+        [b'-'] => Ok(()),
+        [] => Err(Fault::NoRequest),
+        digits => push_bytes(digits, Form::Hexadecimal, text),
+    }
+}
+
+// How the bytes of a text are written.
+#[derive(Clone, Copy)]
+enum Form {
+    Readable,
+    Hexadecimal,
+}
+
+fn push_bytes(written: &[u8], form: Form, text: &mut Bytes) -> Result<(), Fault> {
+    let mut rest = written;
+    for _ in 0..written.len() {
+        if rest.is_empty() {
+            break;
+        }
+        let first = match form {
+            Form::Readable => first_readable(rest),
+            Form::Hexadecimal => first_hexadecimal(rest),
+        };
+        let (byte, others) = first.ok_or(Fault::NoRequest)?;
+        text.push(byte)?;
+        rest = others;
+    }
+    Ok(())
+}
+
 // The byte that stands first between double quotes, and what follows it.
-fn first_byte(text: &[u8]) -> Option<(u8, &[u8])> {
-    match text {
+fn first_readable(written: &[u8]) -> Option<(u8, &[u8])> {
+    match written {
         [b'\\', b'n', rest @ ..] => Some((b'\n', rest)),
         [b'\\', b't', rest @ ..] => Some((b'\t', rest)),
-        [b'\\', b'x', high, low, rest @ ..] => Some((read_byte(*high, *low)?, rest)),
+        [b'\\', b'x', rest @ ..] => first_hexadecimal(rest),
         [b'\\', byte @ (b'"' | b'\\'), rest @ ..] => Some((*byte, rest)),
         [b'"' | b'\\', ..] => None,
         [byte @ b' '..=b'~', rest @ ..] => Some((*byte, rest)),
+        _ => None,
+    }
+}
+
+// The byte of the two digits that stand first, and what follows them.
+fn first_hexadecimal(written: &[u8]) -> Option<(u8, &[u8])> {
+    match written {
+        [high, low, rest @ ..] => Some((read_byte(*high, *low)?, rest)),
         _ => None,
     }
 }
@@ -113,31 +120,4 @@ fn digit_value(digit: u8) -> Option<u8>
         b'a'..=b'f' => Some(digit - b'a' + 10),
         _ => None,
     }
-}
-
-/// Writes a text in hexadecimal at the end of a line.
-pub fn push_hexadecimal(alloc: Global, line: &mut String, text: &[u8]) -> Result<(), Fault> {
-    if text.is_empty() {
-        line.push_str("-")?;
-    } else {
-        line.push_str(hex::encode(alloc, text)?.as_str())?;
-    }
-    Ok(())
-}
-
-/// Writes a text in double quotes at the end of a line.
-pub fn push_quoted(line: &mut String, text: &[u8]) -> Result<(), Fault> {
-    line.push_str("\"")?;
-    for byte in text {
-        match *byte {
-            b'"' => line.push_str("\\\"")?,
-            b'\\' => line.push_str("\\\\")?,
-            b'\n' => line.push_str("\\n")?,
-            b'\t' => line.push_str("\\t")?,
-            b' '..=b'~' => line.push(char::from(*byte))?,
-            byte => write!(line, "\\x{byte:02x}")?,
-        }
-    }
-    line.push_str("\"")?;
-    Ok(())
 }

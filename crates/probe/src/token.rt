@@ -4,7 +4,7 @@ use eb_bytes::Memory;
 use std::alloc::Global;
 
 // Where a byte stands to the double quotes before it.
-#[derive(Clone, Copy, PartialEq, Eq)]
+#[derive(Clone, Copy)]
 enum Quote {
     Outside,
     Inside,
@@ -46,7 +46,7 @@ impl End<'_> {
 pub fn split_before<'t>(text: &'t [u8], end: End<'_>) -> (&'t [u8], &'t [u8]) {
     let mut quote = Quote::Outside;
     for (at, byte) in text.iter().enumerate() {
-        if quote == Quote::Outside && end.is_first(&text[at..]) {
+        if matches!(quote, Quote::Outside) && end.is_first(&text[at..]) {
             return text.split_at(at);
         }
         quote = quote.after(*byte);

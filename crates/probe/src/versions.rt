@@ -4,17 +4,25 @@ use eb_bytes::Bytes;
 use std::cmp::Ordering;
 use version_funcs::{VerErr, compare_versions, read_version, ver_cut, ver_rs, ver_test};
 
-/// `version A B`: `less`, `equal` or `greater`, as the first stands to the second; `none` where one is no version.
-pub fn version(texts: &[Bytes], answer: &mut Answer) -> Result<(), Fault> {
-    let [a, b] = texts else {
-        return Err(Fault::NoRequest);
-    };
-    let (a, b) = (a.as_slice(), b.as_slice());
-    if read_version(a) && read_version(b) {
-        answer.word(order_word(compare_versions(a, b)))
-    } else {
-        answer.word("none")
+impl From<VerErr> for Fault {
+    fn from(error: VerErr) -> Fault {
+        match error {
+            VerErr::BadRange => Fault::Refused("BadRange"),
+            VerErr::BadVersion => Fault::Refused("BadVersion"),
+            VerErr::BadOperator => Fault::Refused("BadOperator"),
+            VerErr::Memory => Fault::Memory,
+        }
     }
+}
+
+/// `version A B`: `less`, `equal` or `greater`, as the first stands to the second; `none` where one is no version.
+pub fn version(a: &[u8], b: &[u8], answer: &mut Answer) -> Result<(), Fault> {
+    if read_version(a) && read_version(b) {
+        answer.word(order_word(compare_versions(a, b)));
+    } else {
+        answer.word("none");
+    }
+    Ok(())
 }
 
 /// The word of an order.
@@ -27,53 +35,30 @@ pub fn order_word(order: Ordering) -> &'static str {
 }
 
 /// `cut RANGE V`: `ok` and what is cut out, or the error's name.
-pub fn cut(texts: &[Bytes], answer: &mut Answer) -> Result<(), Fault> {
-    let [range, v] = texts else {
-        return Err(Fault::NoRequest);
-    };
-    let made = ver_cut(answer.alloc(), range.as_slice(), v.as_slice());
-    text_or_error(made, answer)
+pub fn cut(range: &[u8], v: &[u8], answer: &mut Answer) -> Result<(), Fault> {
+    let text = ver_cut(answer.alloc(), range, v)?;
+    put_text(&text, answer);
+    Ok(())
 }
 
 /// `rs V [RANGE SEP]..`: `ok` and the text with its separators replaced, or the error's name.
-pub fn rs(texts: &[Bytes], answer: &mut Answer) -> Result<(), Fault> {
-    let [v, pairs @ ..] = texts else {
-        return Err(Fault::NoRequest);
-    };
+pub fn rs(v: &[u8], pairs: &[Bytes], answer: &mut Answer) -> Result<(), Fault> {
     if pairs.len() % 2 != 0 {
         return Err(Fault::NoRequest);
     }
-    let made = ver_rs(answer.alloc(), pairs, v.as_slice());
-    text_or_error(made, answer)
+    let text = ver_rs(answer.alloc(), pairs, v)?;
+    put_text(&text, answer);
+    Ok(())
+}
+
+fn put_text(text: &Bytes, answer: &mut Answer) {
+    answer.word("ok");
+    answer.text(text.as_slice());
 }
 
 /// `test A OP B`: `true`, `false`, or the error's name.
-pub fn test(texts: &[Bytes], answer: &mut Answer) -> Result<(), Fault> {
-    let [a, op, b] = texts else {
-        return Err(Fault::NoRequest);
-    };
-    match ver_test(a.as_slice(), op.as_slice(), b.as_slice()) {
-        Ok(true) => answer.word("true"),
-        Ok(false) => answer.word("false"),
-        Err(error) => put_error(error, answer),
-    }
-}
-
-fn text_or_error(made: Result<Bytes, VerErr>, answer: &mut Answer) -> Result<(), Fault> {
-    match made {
-        Ok(text) => {
-            answer.word("ok")?;
-            answer.text(text.as_slice())
-        }
-        Err(error) => put_error(error, answer),
-    }
-}
-
-fn put_error(error: VerErr, answer: &mut Answer) -> Result<(), Fault> {
-    match error {
-        VerErr::BadRange => answer.word("BadRange"),
-        VerErr::BadVersion => answer.word("BadVersion"),
-        VerErr::BadOperator => answer.word("BadOperator"),
-        VerErr::Memory => Err(Fault::Memory),
-    }
+pub fn test(a: &[u8], op: &[u8], b: &[u8], answer: &mut Answer) -> Result<(), Fault> {
+    let holds = ver_test(a, op, b)?;
+    answer.word(if holds { "true" } else { "false" });
+    Ok(())
 }
