@@ -37,6 +37,11 @@
 //! | `match EXTENDED MARKS TEXT` | the same, then the shortest and the longest prefix and suffix and the first match |
 //! | `first EXTENDED MARKS TEXT FROM` | the first match from this place on, `BEGIN-END` or `none` |
 //! | `all EXTENDED MARKS TEXT` | all matches from left to right, `BEGIN-END` each, or `none` |
+//! | `strip OP MARKS TEXT`; `case OP MARKS TEXT` | `ok` and the new text, or `deep`; groups are read |
+//! | `replace OP MARKS TEXT BY` | the same, or `ValueSize` |
+//! | `sub TEXT FROM [LEN]` | `ok` and the substring, or `BadSubstitution` |
+//! | `slice FROM LEN [I=TEXT]..` | `ok` and the elements taken, or `BadSubstitution`; `LEN` may be `-` |
+//! | `parameters FROM LEN ZERO [TEXT]..` | the same of these parameters, the first with the number 0 |
 //! | `vars CALL..` | what the calls answer, as the head of `data/variables.rows` says |
 //! | `funcs CALL..` | what the calls answer, as the head of `data/functions.rows` says |
 //! | `ansi TEXT`; `ansi_value TEXT` | what `$'..'` around the text stands for; `ok` and that, or `Quoting` |
@@ -57,6 +62,7 @@ mod fault;
 mod functions;
 mod marks;
 mod names;
+mod operators;
 mod patterns;
 mod place;
 mod quoting;

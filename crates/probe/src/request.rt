@@ -6,6 +6,7 @@ use crate::entries::{entry, make};
 use crate::fault::Fault;
 use crate::functions::funcs;
 use crate::names::{form, names, paths};
+use crate::operators::{operate, parameters, slice, substring};
 use crate::patterns::{Search, find};
 use crate::quoting::{ansi, ansi_expanded};
 use crate::splits::split;
@@ -44,6 +45,10 @@ fn answer_fields(request: &[u8], fields: &[&[u8]], answer: &mut Answer) -> Resul
         b"matches" => find(Search::Whole, fields, answer),
         b"first" => find(Search::First, fields, answer),
         b"all" => find(Search::All, fields, answer),
+        b"strip" | b"replace" | b"case" => operate(request, fields, answer),
+        b"sub" => substring(fields, answer),
+        b"slice" => slice(fields, answer),
+        b"parameters" => parameters(fields, answer),
         b"vars" => vars(fields, answer),
         b"funcs" => funcs(fields, answer),
         b"share" => share(fields, answer),
