@@ -43,9 +43,15 @@ Eats p old true new = (p old.spot ≡ Ok (tt, new.spot)) × (StaysOn old new × 
 Eats p old false new = (p old.spot ≡ Err No) × (new ≡ old)
 
 -- the same, with what it reads
+abbrev pub FindsSome : {A : Type 0} → Rule A → Seen → A → Seen → Type 0
+FindsSome p old a new = (p old.spot ≡ Ok (a, new.spot)) × (StaysOn old new × KeepsMarks old new)
+
+abbrev pub FindsNone : {A : Type 0} → Rule A → Seen → Seen → Type 0
+FindsNone p old new = (p old.spot ≡ Err No) × (new ≡ old)
+
 abbrev pub Finds : {A : Type 0} → Rule A → Seen → Option A → Seen → Type 0
-Finds p old (Some a) new = (p old.spot ≡ Ok (a, new.spot)) × (StaysOn old new × KeepsMarks old new)
-Finds p old None new = (p old.spot ≡ Err No) × (new ≡ old)
+Finds p old (Some a) new = FindsSome p old a new
+Finds p old None new = FindsNone p old new
 
 -- whether the rule has a reading, which is not taken: what it says before it, and what its absence says
 abbrev pub Stands : {A : Type 0} → Rule A → Seen → Bool → Type 0

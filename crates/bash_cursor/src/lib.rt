@@ -20,8 +20,10 @@ macro_rules! or_back {
 mod class;
 mod cursor;
 mod error;
+mod here_lines;
 mod mark;
 mod names;
+mod operators;
 mod quotes;
 mod reserved;
 mod runs;
@@ -29,7 +31,12 @@ mod runs;
 pub use class::is_in;
 pub use cursor::{Cursor, Marks, Place};
 pub use error::LexErr;
+pub use here_lines::here_text;
 pub use mark::HereMark;
 pub use names::{digits, function_name, lone, name};
+pub use operators::{
+    both_op, case_op, file_op, group_start, here_op, process_start, replace_op, strip_op, value_op,
+    word_op,
+};
 pub use quotes::{ansi_quoted, backslash, continuation, escaped, single_quoted};
 pub use reserved::Reserved;
