@@ -47,7 +47,7 @@ impl From<Memory> for AnsiErr {
 
 /// What a part of the text means.
 #[doc(hidden)]
-#[derive(Clone, Copy, Debug, PartialEq, Eq)]
+#[derive(Clone, Copy)]
 pub enum Meaning {
     /// This byte.
     Byte(u8),
@@ -59,7 +59,7 @@ pub enum Meaning {
 
 /// What the digits of an escape count in.
 #[doc(hidden)]
-#[derive(Clone, Copy, Debug, PartialEq, Eq)]
+#[derive(Clone, Copy)]
 pub enum Base {
     /// `\nnn`
     Octal,

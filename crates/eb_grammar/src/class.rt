@@ -1,5 +1,5 @@
 /// A class of bytes of the grammar. No class holds the byte 0.
-#[derive(Clone, Copy, Debug, PartialEq, Eq)]
+#[derive(Clone, Copy, PartialEq, Eq)]
 pub enum Class {
     /// `[^]`: every byte but 0
     Any,

@@ -14,7 +14,7 @@ pub type FName = Bytes;
 pub type Unary = u8;
 
 /// The rule Blank.
-#[derive(Clone, Copy, Debug, PartialEq, Eq)]
+#[derive(Clone, Copy, PartialEq, Eq)]
 pub enum Blank {
     Space,
     Tab,
@@ -23,7 +23,7 @@ pub enum Blank {
 }
 
 /// The rule ItemEnd.
-#[derive(Clone, Copy, Debug, PartialEq, Eq)]
+#[derive(Clone, Copy, PartialEq, Eq)]
 pub enum ItemEnd {
     Semicolon,
     /// The item is run in the background.
@@ -33,7 +33,7 @@ pub enum ItemEnd {
 }
 
 /// What joins two Pipes.
-#[derive(Clone, Copy, Debug, PartialEq, Eq)]
+#[derive(Clone, Copy, PartialEq, Eq)]
 pub enum Junction {
     /// `&&`
     And,
@@ -42,7 +42,7 @@ pub enum Junction {
 }
 
 /// What stands before the first Command of a Pipe.
-#[derive(Clone, Copy, Debug, PartialEq, Eq)]
+#[derive(Clone, Copy, PartialEq, Eq)]
 pub enum PipeMark {
     /// `!`
     Not,
@@ -53,7 +53,7 @@ pub enum PipeMark {
 }
 
 /// What joins two Commands of a Pipe.
-#[derive(Clone, Copy, Debug, PartialEq, Eq)]
+#[derive(Clone, Copy, PartialEq, Eq)]
 pub enum Bar {
     /// `|&`, standard error too
     Both,
@@ -62,7 +62,7 @@ pub enum Bar {
 }
 
 /// What ends a Clause.
-#[derive(Clone, Copy, Debug, PartialEq, Eq)]
+#[derive(Clone, Copy, PartialEq, Eq)]
 pub enum ClauseEnd {
     /// `;;&`, the patterns after it are tried too
     Continue,
@@ -75,7 +75,7 @@ pub enum ClauseEnd {
 }
 
 /// The rule BinOp.
-#[derive(Clone, Copy, Debug, PartialEq, Eq)]
+#[derive(Clone, Copy, PartialEq, Eq)]
 pub enum BinOp {
     /// `==`
     DoubleEqual,
@@ -108,7 +108,7 @@ pub enum BinOp {
 }
 
 /// The rule DeclName.
-#[derive(Clone, Copy, Debug, PartialEq, Eq)]
+#[derive(Clone, Copy, PartialEq, Eq)]
 pub enum DeclName {
     Declare,
     Typeset,
@@ -118,7 +118,7 @@ pub enum DeclName {
 }
 
 /// The operator of a Redir to a here-string, another descriptor or a file.
-#[derive(Clone, Copy, Debug, PartialEq, Eq)]
+#[derive(Clone, Copy, PartialEq, Eq)]
 pub enum WordOp {
     /// `<<<`, the word itself is the input
     HereString,
@@ -135,7 +135,7 @@ pub enum WordOp {
 }
 
 /// The operator of a here-document.
-#[derive(Clone, Copy, Debug, PartialEq, Eq)]
+#[derive(Clone, Copy, PartialEq, Eq)]
 pub enum HereOp {
     /// `<<-`, tabs at the start of a line are removed
     StripTabs,
@@ -144,7 +144,7 @@ pub enum HereOp {
 }
 
 /// The operator of a Redir that only reads or only writes a file.
-#[derive(Clone, Copy, Debug, PartialEq, Eq)]
+#[derive(Clone, Copy, PartialEq, Eq)]
 pub enum FileOp {
     /// `<`
     Read,
@@ -153,7 +153,7 @@ pub enum FileOp {
 }
 
 /// The operator of a Redir of standard output and standard error.
-#[derive(Clone, Copy, Debug, PartialEq, Eq)]
+#[derive(Clone, Copy, PartialEq, Eq)]
 pub enum BothOp {
     /// `&>>`
     Append,
@@ -162,7 +162,7 @@ pub enum BothOp {
 }
 
 /// What begins a process substitution.
-#[derive(Clone, Copy, Debug, PartialEq, Eq)]
+#[derive(Clone, Copy, PartialEq, Eq)]
 pub enum Process {
     /// `<(..)`, whose output is read
     Read,
@@ -171,7 +171,7 @@ pub enum Process {
 }
 
 /// The operator that gives a parameter another value.
-#[derive(Clone, Copy, Debug, PartialEq, Eq)]
+#[derive(Clone, Copy, PartialEq, Eq)]
 pub enum ValueOp {
     /// `:-`, where unset or empty
     DefaultOfEmpty,
@@ -192,7 +192,7 @@ pub enum ValueOp {
 }
 
 /// The operator that removes a match from a parameter's value.
-#[derive(Clone, Copy, Debug, PartialEq, Eq)]
+#[derive(Clone, Copy, PartialEq, Eq)]
 pub enum StripOp {
     /// `##`
     LongestPrefix,
@@ -205,7 +205,7 @@ pub enum StripOp {
 }
 
 /// The operator that replaces matches in a parameter's value.
-#[derive(Clone, Copy, Debug, PartialEq, Eq)]
+#[derive(Clone, Copy, PartialEq, Eq)]
 pub enum ReplaceOp {
     /// `//`
     All,
@@ -218,7 +218,7 @@ pub enum ReplaceOp {
 }
 
 /// The operator that changes the case of a parameter's value.
-#[derive(Clone, Copy, Debug, PartialEq, Eq)]
+#[derive(Clone, Copy, PartialEq, Eq)]
 pub enum CaseOp {
     /// `^^`
     UpperAll,
@@ -231,7 +231,7 @@ pub enum CaseOp {
 }
 
 /// The rule Plain.
-#[derive(Clone, Copy, Debug, PartialEq, Eq)]
+#[derive(Clone, Copy, PartialEq, Eq)]
 pub enum Plain {
     Byte(u8),
     /// A dollar that begins nothing.

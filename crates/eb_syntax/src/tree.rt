@@ -104,14 +104,12 @@ pub struct HereBody {
 
 /// The rule Items.
 #[cycle(tree)]
-#[derive(Drop)]
 pub struct Items {
     pub items: Shared<List<ItemOf<AndOrOf<PipeOf<Shared<Command>>>>>>,
 }
 
 /// The rule Command.
 #[cycle(tree)]
-#[derive(Drop)]
 pub enum Command {
     /// The Compound, and its Redirs.
     Compound(Compound, List<Redir>),
@@ -238,7 +236,6 @@ pub enum TailPart {
 
 /// The rule Redir. The digits before an operator are empty where none stand there.
 #[cycle(tree)]
-#[derive(Drop)]
 pub enum Redir {
     Word(Bytes, WordOp, Word),
     /// A here-document: also its mark's number, which is the place in the text at which the word begins, and its body,
@@ -250,7 +247,6 @@ pub enum Redir {
 
 /// The rule Assign.
 #[cycle(tree)]
-#[derive(Drop)]
 pub struct Assign {
     pub name: Name,
     pub sub: Option<Shared<List<SubPart>>>,
@@ -261,7 +257,6 @@ pub struct Assign {
 
 /// A part of a Sub.
 #[cycle(tree)]
-#[derive(Drop)]
 pub enum SubPart {
     Sub(Shared<List<SubPart>>),
     Blank(Blank),
@@ -270,14 +265,12 @@ pub enum SubPart {
 
 /// The rule Word.
 #[cycle(tree)]
-#[derive(Drop)]
 pub struct Word {
     pub pieces: Shared<List<Piece>>,
 }
 
 /// The rule Piece.
 #[cycle(tree)]
-#[derive(Drop)]
 pub enum Piece {
     /// A backslash and a newline, which stand for nothing.
     Continuation,
@@ -299,7 +292,6 @@ pub enum Piece {
 
 /// The rule QPiece.
 #[cycle(tree)]
-#[derive(Drop)]
 pub enum QPiece {
     /// A backslash and a newline, which stand for nothing.
     Continuation,
@@ -314,7 +306,6 @@ pub enum QPiece {
 
 /// The rule Dollar.
 #[cycle(tree)]
-#[derive(Drop)]
 pub enum Dollar {
     /// `$(( .. ))`
     Arith(Shared<List<AP>>),
@@ -329,7 +320,6 @@ pub enum Dollar {
 
 /// The rule Param.
 #[cycle(tree)]
-#[derive(Drop)]
 pub enum Param {
     /// `${#..}`
     Length(RefOf<Shared<List<SubPart>>>),
@@ -343,7 +333,6 @@ pub enum Param {
 
 /// The rule Op.
 #[cycle(tree)]
-#[derive(Drop)]
 pub enum Op {
     Value(ValueOp, Shared<List<PW>>),
     Strip(StripOp, Shared<List<PW>>),
@@ -358,7 +347,6 @@ pub enum Op {
 
 /// The rule PW: `Piece` and `Byte` outside double quotes and here-documents, `Double` and `Quoted` inside.
 #[cycle(tree)]
-#[derive(Drop)]
 pub enum PW {
     Piece(Piece),
     Byte(u8),
@@ -368,7 +356,6 @@ pub enum PW {
 
 /// The rule SW.
 #[cycle(tree)]
-#[derive(Drop)]
 pub enum SW {
     Dollar(Dollar),
     Back(Items),
@@ -382,7 +369,6 @@ pub enum SW {
 
 /// The rule AP.
 #[cycle(tree)]
-#[derive(Drop)]
 pub enum AP {
     /// `( .. )`
     Group(Shared<List<AP>>),
@@ -475,5 +461,193 @@ impl Dollar {
             Dollar::Digit(digit) => Dollar::Digit(*digit),
             Dollar::Special(byte) => Dollar::Special(*byte),
         })
+    }
+}
+
+// These types have a `drop` of their own, which a crate above calls. Where they derived it, each crate above that lets a
+// tree go would prove anew how a whole tree is let go.
+
+impl Drop for Items {
+    #[cycle(tree)]
+    fn drop(self) {
+        let Items { items } = self;
+        drop(items);
+    }
+}
+
+impl Drop for Command {
+    #[cycle(tree)]
+    fn drop(self) {
+        match self {
+            Command::Compound(compound, redirections) => {
+                drop(compound);
+                drop(redirections);
+            }
+            Command::FuncDef(function) => drop(function),
+            Command::Coproc(coproc) => drop(coproc),
+            Command::Decl(declaration) => drop(declaration),
+            Command::Simple(simple) => drop(simple),
+        }
+    }
+}
+
+impl Drop for Redir {
+    #[cycle(tree)]
+    fn drop(self) {
+        match self {
+            Redir::Word(digits, _, word) => {
+                drop(digits);
+                drop(word);
+            }
+            Redir::Here(digits, _, word, _, body) => {
+                drop(digits);
+                drop(word);
+                drop(body);
+            }
+            Redir::File(digits, _, word) => {
+                drop(digits);
+                drop(word);
+            }
+            Redir::Both(_, word) => drop(word),
+        }
+    }
+}
+
+impl Drop for Assign {
+    #[cycle(tree)]
+    fn drop(self) {
+        let Assign {
+            name,
+            sub,
+            append: _,
+            value,
+        } = self;
+        drop(name);
+        drop(sub);
+        drop(value);
+    }
+}
+
+impl Drop for SubPart {
+    #[cycle(tree)]
+    fn drop(self) {
+        match self {
+            SubPart::Sub(parts) => drop(parts),
+            SubPart::Blank(_) => {}
+            SubPart::Piece(piece) => drop(piece),
+        }
+    }
+}
+
+impl Drop for Word {
+    #[cycle(tree)]
+    fn drop(self) {
+        let Word { pieces } = self;
+        drop(pieces);
+    }
+}
+
+impl Drop for Piece {
+    #[cycle(tree)]
+    fn drop(self) {
+        match self {
+            Piece::Continuation | Piece::Escaped(_) | Piece::Plain(_) => {}
+            Piece::Single(text) | Piece::Ansi(text) => drop(text),
+            Piece::Double(_, pieces) => drop(pieces),
+            Piece::Dollar(dollar) => drop(dollar),
+            Piece::Back(items) | Piece::Process(_, items) => drop(items),
+            Piece::Group(_, parts) => drop(parts),
+        }
+    }
+}
+
+impl Drop for QPiece {
+    #[cycle(tree)]
+    fn drop(self) {
+        match self {
+            QPiece::Continuation | QPiece::Escaped(_) | QPiece::Lone | QPiece::Byte(_) => {}
+            QPiece::Dollar(dollar) => drop(dollar),
+            QPiece::Back(items) => drop(items),
+        }
+    }
+}
+
+impl Drop for Dollar {
+    #[cycle(tree)]
+    fn drop(self) {
+        match self {
+            Dollar::Arith(text) => drop(text),
+            Dollar::Command(items) => drop(items),
+            Dollar::Param(param) => drop(param),
+            Dollar::Name(name) => drop(name),
+            Dollar::Digit(_) | Dollar::Special(_) => {}
+        }
+    }
+}
+
+impl Drop for Param {
+    #[cycle(tree)]
+    fn drop(self) {
+        match self {
+            Param::Length(reference) | Param::Names(reference, _) => drop(reference),
+            Param::Indirect(reference, operator) | Param::Value(reference, operator) => {
+                drop(reference);
+                drop(operator);
+            }
+        }
+    }
+}
+
+impl Drop for Op {
+    #[cycle(tree)]
+    fn drop(self) {
+        match self {
+            Op::Value(_, word) | Op::Strip(_, word) | Op::Case(_, word) => drop(word),
+            Op::Replace(_, pattern, text) => {
+                drop(pattern);
+                drop(text);
+            }
+            Op::Transform(_) => {}
+            Op::Slice(offset, length) => {
+                drop(offset);
+                drop(length);
+            }
+        }
+    }
+}
+
+impl Drop for PW {
+    #[cycle(tree)]
+    fn drop(self) {
+        match self {
+            PW::Piece(piece) => drop(piece),
+            PW::Byte(_) => {}
+            PW::Double(pieces) => drop(pieces),
+            PW::Quoted(piece) => drop(piece),
+        }
+    }
+}
+
+impl Drop for SW {
+    #[cycle(tree)]
+    fn drop(self) {
+        match self {
+            SW::Dollar(dollar) => drop(dollar),
+            SW::Back(items) => drop(items),
+            SW::Double(pieces) => drop(pieces),
+            SW::Lone | SW::Escaped(_) | SW::Byte(_) => {}
+        }
+    }
+}
+
+impl Drop for AP {
+    #[cycle(tree)]
+    fn drop(self) {
+        match self {
+            AP::Group(parts) => drop(parts),
+            AP::Dollar(dollar) => drop(dollar),
+            AP::Back(items) => drop(items),
+            AP::Lone | AP::Escaped(_) | AP::Byte(_) => {}
+        }
     }
 }
