@@ -5,3 +5,4 @@ pub mod Below
 pub mod RunEnds
 pub mod Skips
 pub mod ReservedWords
+pub mod Trails

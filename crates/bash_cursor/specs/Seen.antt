@@ -47,3 +47,7 @@ marks_of c = record { waiting = c.spot.waiting; bodies = c.spot.bodies }
 
 abbrev pub with_marks : Aside → Seen → Seen
 with_marks m c = record { text = c.text; spot = record (c.spot) { waiting = m.waiting; bodies = m.bodies }; room = c.room }
+
+-- a cursor that stands at a place, with these marks and bodies
+abbrev pub seen_at : Stand → Aside → Seen
+seen_at p m = record { text = p.text; spot = record { rest = p.rest; place = p.place; line = p.line; waiting = m.waiting; bodies = m.bodies }; room = p.room }

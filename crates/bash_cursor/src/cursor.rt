@@ -1,11 +1,13 @@
 ghost use Rattle.std.specs.Prelude.{◌≡◌, ℕ, ◌+◌, ◌-◌, ◌<◌, ◌≤◌, ◌==◌, ◌^◌, [], ◌∷◌, ◌++◌, length, take, count_by, Ok, OnSome, MatchResult};
 ghost use Rattle.eb_grammar.specs.Peg as peg;
 ghost use Rattle.bash_cursor.specs.Seen.{at_spot, gone_to, marks_of, no_marks, stand_of, with_marks, with_room};
-ghost use Rattle.bash_cursor.specs.Reads.{Eats};
+ghost use Rattle.eb_grammar.specs.HereDocuments as here;
+ghost use Rattle.bash_cursor.specs.Reads.{Eats, ReadsMarks};
 
 use crate::error::LexErr;
-use crate::mark::HereMark;
+use crate::marks::{HereMark, Marks};
 use eb_syntax::HereBody;
+use shared::Shared;
 use sqlite_items::Items as List;
 use std::alloc::Global;
 use std::marker::Model;
@@ -23,8 +25,7 @@ pub struct Cursor<'a> {
     place: usize,
     line: u32,
     room: u8,
-    waiting: List<HereMark>,
-    bodies: List<HereBody>,
+    marks: Marks,
     alloc: Global,
 }
 
@@ -38,7 +39,7 @@ impl<'a> Model for Cursor<'a> {
 
     ghost coded = { Prim.hlevel (codes, body.the_row.coded) };
 
-    ghost view = { λ c. record { text = c.text.now; spot = record { rest = c.rest.now; place = c.place; line = c.line; waiting = c.waiting; bodies = c.bodies }; room = c.room } };
+    ghost view = { λ c. record { text = c.text.now; spot = record { rest = c.rest.now; place = c.place; line = c.line; waiting = c.marks.waiting; bodies = c.marks.bodies }; room = c.room } };
 
     ghost invariant = { λ c. (c.line + length c.rest.now ≤ 4294967295) × (c.place + length c.rest.now < 4294967296) × (c.room ≤ 200) × (c.rest.now ≡ drop c.place c.text.now) };
 }
@@ -67,32 +68,24 @@ impl<'a> Model for Place<'a> {
     ghost invariant = { λ p. (p.line + length p.rest.now ≤ 4294967295) × (p.place + length p.rest.now < 4294967296) × (p.room ≤ 200) × (p.rest.now ≡ drop p.place p.text.now) };
 }
 
-/// The here-documents that wait in a list of commands, and the bodies that were read for it.
+/// What a cursor shows, kept so that the cursor can be brought back to it, with the here-documents that wait and the
+/// bodies that were read.
 #[derive(Drop)]
-pub struct Marks {
-    waiting: List<HereMark>,
-    bodies: List<HereBody>,
+pub struct Saved<'a> {
+    place: Place<'a>,
+    marks: Marks,
 }
 
-impl Model for Marks {
+impl<'a> Model for Saved<'a> {
     ghost use Rattle.std.specs.Coded.{codes};
-    ghost use Rattle.bash_cursor.specs.Seen.{Aside};
+    ghost use Rattle.bash_cursor.specs.Seen.{Seen, seen_at};
     ghost use Rattle.eb_syntax.specs.contracts.tree.HereBody as body;
 
-    ghost Value = { Aside };
+    ghost Value = { Seen };
 
     ghost coded = { Prim.hlevel (codes, body.the_row.coded) };
 
-    ghost view = { λ m. record { waiting = m.waiting; bodies = m.bodies } };
-}
-
-impl Marks {
-    /// Whether no here-document waits for its body.
-    pub fn are_answered(&self) -> bool
-        ensures { result ≡ peg.ends self.now.waiting }
-    {
-        self.waiting.is_empty()
-    }
+    ghost view = { λ s. seen_at s.place s.marks };
 }
 
 // How many newlines there are.
@@ -116,8 +109,7 @@ impl<'a> Cursor<'a> {
             place: 0,
             line: 1,
             room: MAX_NESTING,
-            waiting: List::new(alloc),
-            bodies: List::new(alloc),
+            marks: Marks::new(alloc),
             alloc,
         }
     }
@@ -133,8 +125,7 @@ impl<'a> Cursor<'a> {
             place: 0,
             line,
             room: self.room,
-            waiting: List::new(self.alloc),
-            bodies: List::new(self.alloc),
+            marks: Marks::new(self.alloc),
             alloc: self.alloc,
         }
     }
@@ -281,16 +272,74 @@ impl<'a> Cursor<'a> {
         self.room += 1;
     }
 
+    /// All that the cursor shows, to which `restore` brings it back.
+    ///
+    /// # Errors
+    /// `Memory` where there is no room for the marks.
+    pub fn save(&self) -> Result<Saved<'a>, LexErr>
+        ensures { MatchResult result (λ saved. saved ≡ self.now) (λ e. e ≡ LexErr.Memory) }
+    {
+        Ok(Saved {
+            place: self.here(),
+            marks: self.marks.copy()?,
+        })
+    }
+
+    /// Goes back to what was saved on the same text.
+    pub fn restore(&mut self, saved: Saved<'a>)
+        requires { saved.text ≡ self.old.text }
+        ensures { self.new ≡ saved.entry }
+    {
+        self.back_to(saved.place);
+        self.marks = saved.marks;
+    }
+
+    /// One more here-document waits for its body.
+    ///
+    /// # Errors
+    /// `Memory` where there is no room for it.
+    pub fn mark(&mut self, mark: HereMark) -> Result<(), LexErr>
+        ensures { ReadsMarks (here.mark mark) self.old result self.new }
+    {
+        self.marks.wait(mark)?;
+        Ok(())
+    }
+
+    /// The here-documents that wait for their bodies, in their order.
+    ///
+    /// # Errors
+    /// `Memory` where there is no room for the list.
+    pub fn waiting(&self) -> Result<List<Shared<HereMark>>, LexErr>
+        ensures { MatchResult result (λ marks. marks ≡ self.now.spot.waiting) (λ e. e ≡ LexErr.Memory) }
+    {
+        Ok(self.marks.waiting()?)
+    }
+
+    /// A body has been read.
+    ///
+    /// # Errors
+    /// `Memory` where there is no room for it.
+    pub fn keep(&mut self, body: HereBody) -> Result<(), LexErr>
+        ensures { ReadsMarks (here.keep body) self.old result self.new }
+    {
+        self.marks.keep(body)?;
+        Ok(())
+    }
+
+    /// No here-document waits any more.
+    pub fn answered(&mut self)
+        ensures { ReadsMarks here.answered self.old (Ok tt) self.new }
+    {
+        self.marks.answer();
+    }
+
     /// Begins a list of commands, which has here-documents of its own: those that wait, and the bodies that were read,
     /// are set aside.
     pub fn open_items(&mut self) -> Marks
         ensures outer { result ≡ marks_of self.old }
         ensures inner { self.new ≡ with_marks no_marks self.old }
     {
-        Marks {
-            waiting: mem::replace(&mut self.waiting, List::new(self.alloc)),
-            bodies: mem::replace(&mut self.bodies, List::new(self.alloc)),
-        }
+        mem::replace(&mut self.marks, Marks::new(self.alloc))
     }
 
     /// Ends a list of commands: what was set aside comes back, and what is its own is given.
@@ -298,9 +347,6 @@ impl<'a> Cursor<'a> {
         ensures inner { result ≡ marks_of self.old }
         ensures outer { self.new ≡ with_marks outer self.old }
     {
-        Marks {
-            waiting: mem::replace(&mut self.waiting, outer.waiting),
-            bodies: mem::replace(&mut self.bodies, outer.bodies),
-        }
+        mem::replace(&mut self.marks, outer)
     }
 }

@@ -8,7 +8,7 @@ ghost use Rattle.eb_grammar.specs.Peg.{gather};
 
 use crate::cursor::Cursor;
 use crate::error::LexErr;
-use crate::mark::HereMark;
+use crate::marks::HereMark;
 use eb_bytes::Bytes;
 use eb_grammar::Class;
 

@@ -21,18 +21,19 @@ mod class;
 mod cursor;
 mod error;
 mod here_lines;
-mod mark;
+mod marks;
 mod names;
 mod operators;
 mod quotes;
 mod reserved;
 mod runs;
+mod trail;
 
 pub use class::is_in;
-pub use cursor::{Cursor, Marks, Place};
+pub use cursor::{Cursor, Place, Saved};
 pub use error::LexErr;
 pub use here_lines::here_text;
-pub use mark::HereMark;
+pub use marks::{HereMark, Marks};
 pub use names::{digits, function_name, lone, name};
 pub use operators::{
     both_op, case_op, file_op, group_start, here_op, process_start, replace_op, strip_op, value_op,
