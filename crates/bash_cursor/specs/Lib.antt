@@ -1,0 +1,4 @@
+pub mod Seen
+pub mod Reads
+pub mod Ends
+pub mod Reserved
