@@ -1,4 +1,4 @@
--- A run of bytes ends at the first byte that a search finds, and a text behind a text is a text.
+-- A run of bytes ends at the first byte that a search finds, and a text after a text is a text.
 use Rattle.std.proofs.Common.{◌≡◌, ℕ, ◌+◌, ◌<◌, Bool, true, false, not, ◌||◌, ◌==◌, Option, Some, None, length, get_or, drop, sym, refl, arith}
 use Rattle.std.specs.List.{prefix_len}
 use Rattle.std.specs.Option.{unwrap_or}
