@@ -56,7 +56,7 @@ pub enum Fault {
     #[error("tests of files are not supported")]
     FileTest(Bytes),
     /// The words of a test are no test, or a text in it is no number: the first word that does not fit.
-    #[error("a malformed test")]
+    #[error("a malformed condition")]
     BadTest(Bytes),
     /// The words of a builtin or a command are not what it takes: its name.
     #[error("a command was used wrongly")]
