@@ -1,5 +1,5 @@
 -- What calls of a host say of its commands (own).
-use Rattle.std.specs.Prelude.{◌≡◌, ℕ, ◌≤◌, Bool, true, false, List, [], ◌∷◌, length, Result, Ok, Err}
+use Rattle.std.specs.Prelude.{◌≡◌, ℕ, ◌≤◌, ◌<◌, Bool, true, false, List, [], ◌∷◌, length, Result, Ok, Err}
 use Rattle.eb_bytes.specs.Spending.{Spending}
 use Rattle.shell_vars.specs.Stores.{Stores}
 use Rattle.shell_vars.specs.Store.{kinds}
@@ -76,6 +76,10 @@ saved_at context pending = record { context = lost context; scripts = length pen
 abbrev pub opened_before : List Saved → ℕ
 opened_before [] = 0
 opened_before (s ∷ ss) = s.scripts
+
+-- a script is open that was handed out since the innermost open subshell began
+abbrev pub MayFinish : List Saved → List (State → Begun) → Type 0
+MayFinish saved pending = opened_before saved < length pending
 
 -- a subshell is open, and just the scripts are open that were open as it began
 abbrev pub MayEnd : List Saved → List (State → Begun) → Type 0

@@ -3,7 +3,7 @@ ghost use Rattle.eb_files.specs.Causes.{HasCause};
 ghost use Rattle.shell_state.specs.Host.{Begins, Begun, Lasts};
 ghost use Rattle.shell_state.specs.State.{Context, State};
 ghost use Rattle.eb_bytes.specs.Text.{Text};
-ghost use Rattle.shell_host.specs.Hosts.{Closes, DoesBegin, DoesFinish, Ends, KeepsFrames, MayEnd, Opens, Saved};
+ghost use Rattle.shell_host.specs.Hosts.{Closes, DoesBegin, DoesFinish, Ends, KeepsFrames, MayEnd, MayFinish, Opens, Saved};
 ghost use Rattle.shell_host.specs.Hosts.{held, is_failed, opened_before, saved_at};
 
 use eb_bytes::{Budget, Bytes, Memory, Steps};
@@ -92,9 +92,9 @@ pub trait Host {
         ensures used { budget.old.used ≤ budget.new.used }
         ensures ticks { steps.new + budget.old.used ≡ steps.old + budget.new.used };
 
-    /// Goes on with the command that handed out the innermost open script, once that has ended with this status. Such a
-    /// script must be open that was handed out since the innermost open subshell began; it is closed. The answer is never
-    /// `NotMine`; what stays is what `begin` leaves.
+    /// Goes on with the command that handed out the innermost open script, once that has ended with this status. That
+    /// script is closed, and the answer is not `NotMine`; what stays is what `begin` leaves. Where no script is open that
+    /// was handed out since the innermost open subshell began, the answer is `NotMine`, and nothing changes.
     ///
     /// # Errors
     /// As those of `begin`.
@@ -107,12 +107,15 @@ pub trait Host {
         budget: &mut Budget,
         steps: &mut Steps<L>,
     ) -> Result<HostStep, Stop>
-        requires { opened_before (saved self.old) < length (pending self.old) }
-        ensures means { IsSome (commands self.old) → DoesFinish result status opts.now
+        ensures means { IsSome (commands self.old) → MayFinish (saved self.old) (pending self.old) → DoesFinish result status opts.now
             (held vars.old funcs.old budget.old (context self.old) (pending self.old))
             (held vars.new funcs.new budget.new (context self.new) (pending self.new)) }
-        ensures mine { result ≢ Ok HostStep.NotMine }
-        ensures scripts { Closes result (pending self.old) (pending self.new) }
+        ensures mine { MayFinish (saved self.old) (pending self.old) → result ≢ Ok HostStep.NotMine }
+        ensures none { length (pending self.old) ≤ opened_before (saved self.old) → result ≡ Ok HostStep.NotMine }
+        ensures nothing { length (pending self.old) ≤ opened_before (saved self.old) →
+            held vars.new funcs.new budget.new (context self.new) (pending self.new)
+            ≡ held vars.old funcs.old budget.old (context self.old) (pending self.old) }
+        ensures scripts { MayFinish (saved self.old) (pending self.old) → Closes result (pending self.old) (pending self.new) }
         ensures frames { OnOk result (KeepsFrames vars.old funcs.old vars.new funcs.new) }
         ensures same { commands self.new ≡ commands self.old }
         ensures saved { OnOk result (saved self.new ≡ saved self.old) }
