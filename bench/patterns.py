@@ -3,7 +3,7 @@
 
 Times patterns on texts of SIZE bytes and of twice that, as probe_times.py says: `match`, which makes eight walks over
 the text (one for `matches`, one for each of four searches, two for the first match, and what is left of it for the
-third); `all`, all matches in one walk; and a pattern of as many brackets that never close, on one of them. Ends with 1
+third); `all`, all matches in one walk; and patterns of as many brackets that never close, on one of them. Ends with 1
 where an answer is wrong, or where SIZE brackets, or all matches in SIZE bytes, take more than a second.
 """
 import sys
@@ -52,8 +52,10 @@ def all_matches(size):
 
 
 def brackets(size):
-    """The name of the case of brackets that never close, its request, and the answer"""
+    """The name of each case of brackets that never close, its request, and the answer"""
     yield "matches [[[..", b"matches 0 L" + b"5b" * size + b" 5b", b"no"
+    open_class = hexadecimal(b"[[:alpha:]")
+    yield "matches [[:alpha:][[:alpha:]..", b"matches 0 L" + open_class * (size // 10) + b" 5b", b"no"
 
 
 if __name__ == "__main__":
