@@ -20,10 +20,10 @@ pub record Alike {P Q V W : Type 0} (v : Values P V) (w : Values Q W) (f : P →
   pub run : (s : Sequence) → h (v.run s) ≡ w.run s
 
 module _ {P Q V W : Type 0} (v : Values P V) (w : Values Q W) (f : P → Q) (h : V → W) (alike : Alike v w f h) where
-  level_of : Level V → Level W
+  abbrev level_of : Level V → Level W
   level_of level = record { first = h level.first; others = map h level.others }
 
-  reading_of : Reading V → Reading W
+  abbrev reading_of : Reading V → Reading W
   reading_of r = record { here = level_of r.here; outer = map level_of r.outer }
 
   choices : (first : V) (others : List V) → choice w (h first) (map h others) ≡ h (choice v first others)

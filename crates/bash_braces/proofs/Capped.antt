@@ -17,8 +17,8 @@ great_right zero b great some = omega arith
 great_right (suc m) b great some = omega (arith, suc-mul m b)
 
 pub capped-mul : (a b : ℕ) → capped (capped a * capped b) ≡ capped (a * b)
-capped-mul zero b = refl
-capped-mul (suc m) zero = refl
+capped-mul zero b = omega arith
+capped-mul (suc m) zero = omega arith
 capped-mul (suc m) (suc n) = on (either_way (suc m)) (either_way (suc n))
   where
     on : (suc m ≤ 65537) ⊎ (65537 ≤ suc m) → (suc n ≤ 65537) ⊎ (65537 ≤ suc n) → capped (capped (suc m) * capped (suc n)) ≡ capped (suc m * suc n)

@@ -16,11 +16,11 @@ use Rattle.bash_braces.specs.Values.{joined}
 use Rattle.bash_braces.proofs.Alike.{Alike, makes}
 use Rattle.bash_braces.proofs.Capped.{capped-add, capped-mul}
 
-number : List (List Symbol) → ℕ
+abbrev number : List (List Symbol) → ℕ
 number ws = capped (length ws)
 
 length-joined : (before after : List (List Symbol)) → length (joined before after) ≡ length before * length after
-length-joined [] after = refl
+length-joined [] after = omega arith
 length-joined (w ∷ before) after = length-append (map (λ (v : List Symbol). w ++ v) after) (joined before after) ∙ ap (λ k. k + length (joined before after)) (length-map after (λ (v : List Symbol). w ++ v)) ∙ ap (λ k. length after + k) (length-joined before after) ∙ turned
   where
     turned : length after + length before * length after ≡ suc (length before) * length after

@@ -1,6 +1,7 @@
 -- The words of symbols are those of the pieces that the symbols stand for.
-use Rattle.std.proofs.Common.{◌≡◌, ℕ, List, [], ◌∷◌, ◌++◌, length, map, refl, sym, ap, ◌∙◌, append_assoc}
+use Rattle.std.proofs.Common.{◌≡◌, ℕ, List, [], ◌∷◌, ◌++◌, length, map, refl, sym, ap, ◌∙◌, append_assoc, arith}
 use Rattle.std.specs.List.{range_with_len}
+use Rattle.std.proofs.lemmas.List.{map-append}
 use Rattle.eb_bytes.specs.Text.{Text}
 use Rattle.eb_syntax.specs.declared.tree.Piece.{Piece}
 use Rattle.bash_braces.specs.declared.symbol.Symbol.{Symbol}
@@ -14,7 +15,7 @@ use Rattle.bash_braces.proofs.Alike.{Alike, makes}
 use Rattle.bash_braces.proofs.Placing.{places}
 
 module _ (ps : List Piece) where
-  of_word : List Symbol → List Piece
+  abbrev of_word : List Symbol → List Piece
   of_word w = map (piece_of ps) w
 
   word-append : (w v : List Symbol) → of_word (w ++ v) ≡ of_word w ++ of_word v
@@ -56,7 +57,7 @@ module _ (ps : List Piece) where
   }
 
   pub pieces_words : pieces_of_symbols ps (made symbols (at ps) (range_with_len 0 (length ps))) ≡ made words (λ p. p) ps
-  pieces_words = sym (makes symbols words (at ps) (pieces_of_symbols ps) alike (λ p. p) (range_with_len 0 (length ps))) ∙ ap (made words (λ p. p)) (places ps (length ps) 0 refl)
+  pieces_words = sym (makes symbols words (at ps) (pieces_of_symbols ps) alike (λ p. p) (range_with_len 0 (length ps))) ∙ ap (made words (λ p. p)) (places ps (length ps) 0 (omega arith))
 
 -- ---- names
 
@@ -71,3 +72,8 @@ renamed_last end (q ∷ ps) p = ap (before q) (renamed_last end ps p)
 pub renamed_whole : (ps : List Piece) → renamed_onto [] ps ≡ renamed ps
 renamed_whole [] = refl
 renamed_whole (p ∷ ps) = ap (before p) (renamed_whole ps)
+
+pub renamed_step : (of : Symbol → Piece) (all more : List Piece) (w rest : List Symbol) (s : Symbol) (p : Piece) → w ≡ rest ++ s ∷ [] → p ≡ of s → more ≡ before p all → renamed_onto more (map of rest) ≡ renamed_onto all (map of w)
+renamed_step of all more w rest s p last stands put =
+    let of_all : map of w ≡ map of rest ++ of s ∷ [] = ap (map of) last ∙ map-append of rest (s ∷ []) in
+    ap (λ e. renamed_onto e (map of rest)) (put ∙ ap (λ q. before q all) stands) ∙ sym (renamed_last all (map of rest) (of s)) ∙ ap (renamed_onto all) (sym of_all)
