@@ -1,7 +1,6 @@
 -- Numbers above the limit are one number, also after a product or a sum.
-use Rattle.std.proofs.Common.{◌≡◌, ℕ, zero, suc, ◌+◌, ◌*◌, ◌≤◌, ◌<◌, ◌⊎◌, inl, inr, refl, sym, ap, ◌∙◌, arith}
-use Rattle.std.specs.Prelude.{min}
-use Rattle.std.proofs.Math.Nat.{mul-suc, suc-mul, min-eq_left, min-eq_right}
+use Rattle.std.proofs.Common.{◌≡◌, ℕ, zero, suc, ◌+◌, ◌*◌, ◌≤◌, ◌<◌, ◌⊎◌, inl, inr, sym, ap, ◌∙◌, arith}
+use Rattle.std.proofs.Math.Nat.{mul-suc, suc-mul, min-eq_left}
 use Rattle.bash_braces.specs.Counts.{capped}
 
 either_way : (a : ℕ) → (a ≤ 65537) ⊎ (65537 ≤ a)

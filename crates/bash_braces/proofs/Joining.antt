@@ -1,5 +1,5 @@
 -- Lists of words, one of which has one word.
-use Rattle.std.proofs.Common.{◌≡◌, ℕ, List, [], ◌∷◌, ◌++◌, length, map, refl, sym, ap, ◌∙◌, append_assoc, get_or, arith}
+use Rattle.std.proofs.Common.{◌≡◌, List, [], ◌∷◌, ◌++◌, length, map, refl, sym, ap, ◌∙◌, append_assoc, get_or, arith}
 use Rattle.std.proofs.lemmas.List.{append-nil}
 use Rattle.bash_braces.specs.Values.{joined}
 

@@ -1,5 +1,5 @@
 -- Going over alternatives and levels from the last.
-use Rattle.std.proofs.Common.{◌≡◌, ℕ, List, [], ◌∷◌, ◌++◌, refl, ap}
+use Rattle.std.proofs.Common.{◌≡◌, List, [], ◌∷◌, ◌++◌, refl, ap}
 use Rattle.bash_braces.specs.declared.reading.Level.{Level}
 use Rattle.bash_braces.specs.Reading.{after_closings, after_commas, plain_level}
 use Rattle.bash_braces.specs.Values.{Values}

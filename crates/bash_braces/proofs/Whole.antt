@@ -1,5 +1,5 @@
 -- What is counted and made of a word's symbols is what is said of the word.
-use Rattle.std.proofs.Common.{◌≡◌, ℕ, ◌<◌, ◌≤◌, List, length, map, refl, sym, ap, ◌∙◌, arith}
+use Rattle.std.proofs.Common.{◌≡◌, ℕ, List, length, map, sym, ap, ◌∙◌}
 use Rattle.std.specs.List.{range_with_len}
 use Rattle.std.proofs.lemmas.List.{length-map}
 use Rattle.eb_syntax.specs.declared.tree.Piece.{Piece}
@@ -11,7 +11,6 @@ use Rattle.bash_braces.specs.Counts.{capped, counts}
 use Rattle.bash_braces.specs.Pieces.{pieces_of}
 use Rattle.bash_braces.specs.Reading.{made}
 use Rattle.bash_braces.specs.Symbols.{at, piece_of, pieces_of_symbols, symbols}
-use Rattle.bash_braces.specs.Values.{words}
 use Rattle.bash_braces.proofs.Counting.{counts_words}
 use Rattle.bash_braces.proofs.Naming.{pieces_words}
 

@@ -1,5 +1,5 @@
 -- Brace expansion of a word (Bash Reference Manual, "Brace Expansion").
-use Rattle.std.specs.Prelude.{◌≡◌, ℕ, ◌<◌, Bool, ◌&&◌, false, List, [], ◌∷◌, ◌++◌, length, map, Option, Some, None, Result, Ok, Err, if◌then◌else◌}
+use Rattle.std.specs.Prelude.{ℕ, ◌<◌, Bool, ◌&&◌, false, List, [], ◌∷◌, ◌++◌, length, map, Option, Some, None, if◌then◌else◌}
 use Rattle.eb_bytes.specs.Class.{is_name_byte, is_name_start}
 use Rattle.eb_bytes.specs.Text.{Text}
 use Rattle.eb_syntax.specs.declared.tree.Dollar.TheVariants as dollar
@@ -15,8 +15,8 @@ use Rattle.bash_braces.specs.declared.error.BraceErr.TheVariants.{TooMany, Memor
 
 -- ---- names
 
--- Braces are expanded in the text of a word, so a name goes on through the name bytes that come to stand after it, and a
--- dollar that began nothing may begin a name.
+-- Braces are expanded in the text of a word, so a name goes on through the name bytes that come to stand after it, and
+-- a dollar that began nothing may begin a name.
 
 abbrev pub name : Text → Piece
 name n = piece.Dollar (dollar.Name n)

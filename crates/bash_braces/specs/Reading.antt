@@ -1,7 +1,8 @@
--- How the braces of a word are read (Bash Reference Manual, "Brace Expansion"). Each `}` belongs to the nearest `{` before it
--- that no other `}` in between belongs to. A pair with a comma at its own level has alternatives; one that holds a sequence
--- stands for that; the braces and commas of any other pair, and those that belong to no pair, stand for themselves.
-use Rattle.std.specs.Prelude.{ℕ, Bool, true, false, ◌==◌, List, [], ◌∷◌, map, Option, Some, None, if◌then◌else◌}
+-- How the braces of a word are read (Bash Reference Manual, "Brace Expansion"). Each `}` belongs to the nearest `{`
+-- before it that no other `}` in between belongs to. A pair with a comma at its own level has alternatives; one that
+-- holds a sequence stands for that; the braces and commas of any other pair, and those that belong to no pair, stand for
+-- themselves. Nothing is read inside a piece, be it quoted, a parameter, a substitution or an extended group.
+use Rattle.std.specs.Prelude.{ℕ, Bool, ◌==◌, List, [], ◌∷◌, map, Option, Some, None, if◌then◌else◌}
 use Rattle.eb_bytes.specs.Text.{Text}
 use Rattle.eb_syntax.specs.declared.tree.Piece.{Piece}
 use Rattle.bash_braces.specs.declared.reading.Level.{Level}

@@ -1,7 +1,6 @@
 -- What words are made of before they have pieces: places in the word that was read, and bytes of sequences.
 use Rattle.std.specs.Prelude.{ℕ, List, map}
 use Rattle.std.specs.Prelude.{slice_index_or}
-use Rattle.std.specs.List.{range_with_len}
 use Rattle.eb_syntax.specs.declared.tree.Piece.{Piece}
 use Rattle.bash_braces.specs.Values.{Values, plain_piece, words_of}
 use Rattle.bash_braces.specs.declared.symbol.Symbol.{Symbol}

@@ -2,7 +2,7 @@ use eb_bytes::Memory;
 use thiserror::Error;
 
 /// Why a word's braces were not expanded.
-#[derive(Clone, Copy, Debug, PartialEq, Eq, Error)]
+#[derive(Clone, Copy, Debug, Error)]
 pub enum BraceErr {
     /// They give more than 65,536 words.
     #[error("braces give more than 65536 words")]

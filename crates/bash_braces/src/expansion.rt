@@ -14,11 +14,11 @@ use std::alloc::Global;
 
 /// The words that a word's braces give, in order (Bash Reference Manual, "Brace Expansion"): one word or more.
 ///
-/// `{a,b}` gives each of its alternatives, `{x..y}` and `{x..y..i}` the numbers or the letters from `x` towards `y`, with
-/// what stands before and after; the first braces of a word change slowest. A `}` belongs to the nearest `{` before it
-/// that no other `}` in between belongs to. Braces inside quotes, of `${`, with no comma at their own level and no
-/// sequence inside, or without the other brace, are text. A `$NAME` goes on through the name bytes that come to stand
-/// after it. The words share their pieces with `word`.
+/// `{a,b}` gives each of its alternatives, `{x..y}` and `{x..y..i}` the numbers or the letters from `x` towards `y`,
+/// with what stands before and after; the first braces of a word change slowest. A `}` belongs to the nearest `{` before
+/// it that no other `}` in between belongs to. Braces inside quotes or an extended group, of `${`, with no comma at
+/// their own level and no sequence inside, or without the other brace, are text. A `$NAME` goes on through the name
+/// bytes that come to stand after it. The words share their pieces with `word`.
 ///
 /// # Errors
 /// `TooMany` where they are more than 65,536, which is found before any word is made; `Memory` where there is no room

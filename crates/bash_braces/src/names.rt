@@ -66,7 +66,11 @@ fn piece_of(pieces: &[Piece], symbol: Symbol) -> Result<Piece, Memory>
 }
 
 // The pieces of a word, with the names that they then have.
-pub(crate) fn renamed(alloc: Global, pieces: &[Piece], mut word: Queue<Symbol>) -> Result<Queue<Piece>, Memory>
+pub(crate) fn renamed(
+    alloc: Global,
+    pieces: &[Piece],
+    mut word: Queue<Symbol>,
+) -> Result<Queue<Piece>, Memory>
     ensures { IfOk result (λ all. all ≡ renamed (map (piece_of pieces.now) word)) }
 {
     let mut all = Queue::new(alloc);

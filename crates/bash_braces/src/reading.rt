@@ -103,7 +103,8 @@ impl<V: Value> Level<V> {
     // What is made of a pair of braces with this level inside, and of what stands after it. `pieces` stand after the
     // `{`.
     fn pair(self, alloc: Global, pieces: &[Piece], after: V) -> Result<V, Memory>
-        ensures { IfOk result (λ value. value ≡ pair V.values self.first self.others (sequence_of (enclosed pieces.now)) after) }
+        ensures { IfOk result (λ value.
+            value ≡ pair V.values self.first self.others (sequence_of (enclosed pieces.now)) after) }
     {
         let Level { first, others } = self;
         if others.len() != 0 {
@@ -168,7 +169,8 @@ impl<V: Value> Reading<V> {
 
     // The reading with a `}` before it.
     fn close(self, alloc: Global) -> Result<Reading<V>, Memory>
-        ensures { IfOk result (λ reading. reading ≡ record { here = empty V.values; outer = self.here ∷ self.outer }) }
+        ensures { IfOk result (λ reading.
+            reading ≡ record { here = empty V.values; outer = self.here ∷ self.outer }) }
     {
         let Reading { here, mut outer } = self;
         outer.put_first(here)?;

@@ -148,7 +148,9 @@ fn padded(alloc: Global, width: usize, value: i64) -> Result<Bytes, Memory>
 {
     let digits = decimal(alloc, value.unsigned_abs())?;
     let mut text = sign(alloc, value)?;
-    let zeros = width.saturating_sub(text.len()).saturating_sub(digits.len());
+    let zeros = width
+        .saturating_sub(text.len())
+        .saturating_sub(digits.len());
     push_zeros(&mut text, zeros)?;
     text.extend(digits.as_slice())?;
     Ok(text)

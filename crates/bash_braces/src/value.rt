@@ -7,7 +7,6 @@ use std::alloc::Global;
 // What is made of a text's parts: its words, or only how many these are.
 pub(crate) trait Value: Drop {
     ghost use Rattle.bash_braces.specs.Values.{Values};
-
     ghost use Rattle.std.specs.Prelude.{ℕ};
 
     ghost values: { Values ℕ Self };

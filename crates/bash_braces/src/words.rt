@@ -6,9 +6,9 @@ ghost use Rattle.bash_braces.specs.Values.{joined};
 
 use crate::queue::Queue;
 use crate::sequence::Sequence;
+use crate::symbol::Symbol;
 use crate::value::Value;
 use eb_bytes::Memory;
-use crate::symbol::Symbol;
 use std::alloc::Global;
 
 // Words, each as its symbols.

@@ -89,10 +89,15 @@ fn goes_on(begun: &Bytes, byte: u8) -> bool {
 // The piece of the bytes that were read inside this.
 fn piece_of(alloc: Global, inside: Inside, text: Bytes) -> Result<Piece, Memory> {
     Ok(match inside {
-        Inside::Double => Piece::Double(false, Shared::new(alloc, quoted(alloc, text.as_slice())?)?),
+        Inside::Double => Piece::Double(
+            false,
+            Shared::new(alloc, quoted(alloc, text.as_slice())?)?,
+        ),
         Inside::Name if text.is_empty() => Piece::Plain(Plain::Lone),
         Inside::Name => Piece::Dollar(Dollar::Name(Shared::new(alloc, text)?)),
-        Inside::Nothing | Inside::Backslash | Inside::Single => Piece::Single(Shared::new(alloc, text)?),
+        Inside::Nothing | Inside::Backslash | Inside::Single => Piece::Single(Shared::new(
+            alloc, text,
+        )?),
     })
 }
 

@@ -1,4 +1,4 @@
-use Rattle.std.proofs.Common.{◌≡◌, ◌++◌, length}
+use Rattle.std.proofs.Common.{◌≡◌, length}
 use Rattle.bash_braces.specs.Braces.{named}
 use Rattle.bash_braces.proofs.names.named.Given as goal
 

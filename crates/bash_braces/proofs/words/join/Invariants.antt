@@ -1,5 +1,4 @@
-use Rattle.std.proofs.Common.{◌≡◌, ◌++◌, ◌∷◌, List, length, map, take, drop}
-use Rattle.bash_braces.specs.declared.symbol.Symbol.{Symbol}
+use Rattle.std.proofs.Common.{◌≡◌, ◌++◌, length}
 use Rattle.bash_braces.specs.Values.{joined}
 use Rattle.bash_braces.proofs.words.join.Given as goal
 

@@ -1,4 +1,4 @@
-use Rattle.std.proofs.Common.{◌≡◌, ◌++◌, ◌∷◌, List, length, map, take, drop}
+use Rattle.std.proofs.Common.{◌≡◌, map, take}
 use Rattle.bash_braces.specs.declared.symbol.Symbol.TheVariants.{Byte}
 use Rattle.bash_braces.proofs.words.literal.Given as goal
 

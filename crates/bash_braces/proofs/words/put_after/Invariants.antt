@@ -1,4 +1,4 @@
-use Rattle.std.proofs.Common.{◌≡◌, ◌++◌, ◌∷◌, List, length, map, take, drop}
+use Rattle.std.proofs.Common.{◌≡◌, ◌++◌, List, length, map}
 use Rattle.bash_braces.specs.declared.symbol.Symbol.{Symbol}
 use Rattle.bash_braces.proofs.words.put_after.Given as goal
 

@@ -1,4 +1,4 @@
-use Rattle.std.proofs.Common.{◌≡◌, ◌++◌, ◌∷◌, List, length, map, take, drop}
+use Rattle.std.proofs.Common.{◌≡◌, take}
 use Rattle.bash_braces.proofs.words.share.Given as goal
 
 abbrev pub invariant-loop-index : goal.invariant-loop-index

@@ -1,4 +1,4 @@
-use Rattle.std.proofs.Common.{◌≡◌, ◌≤◌, ◌++◌, ◌∷◌, List, length, map, take, drop}
+use Rattle.std.proofs.Common.{◌≡◌, ◌≤◌, ◌++◌, length, drop}
 use Rattle.bash_braces.proofs.queue.Queue.put_all_first.Given as goal
 
 abbrev pub invariant-loop-left : goal.invariant-loop-left

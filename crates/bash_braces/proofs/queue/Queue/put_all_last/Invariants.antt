@@ -1,4 +1,4 @@
-use Rattle.std.proofs.Common.{◌≡◌, ◌++◌, ◌∷◌, List, length, map, take, drop}
+use Rattle.std.proofs.Common.{◌≡◌, ◌++◌, take}
 use Rattle.bash_braces.proofs.queue.Queue.put_all_last.Given as goal
 
 abbrev pub invariant-loop-index : goal.invariant-loop-index
