@@ -44,7 +44,9 @@
 //! | `parameters FROM LEN ZERO [TEXT]..` | the same of these parameters, the first with the number 0 |
 //! | `vars CALL..` | what the calls answer, as the head of `data/variables.rows` says |
 //! | `funcs CALL..` | what the calls answer, as the head of `data/functions.rows` says |
+//! | `braces TEXT` | `ok` and the text of each word that the text's braces give, or `many` |
 //! | `ansi TEXT`; `ansi_value TEXT` | what `$'..'` around the text stands for; `ok` and that, or `Quoting` |
+//! | `fault NAME [FIELD]..` | the text of the fault of a script; a text or a number in decimal for each field |
 //! | `share KIND TEXT` | the kind and the text of what `share` gives of a tree of this kind and text |
 //! | `arith TEXT [steps LIMIT] [GIVEN]..` | `ok N` or the fault, `steps N`, then each variable given or set |
 //! | `read LEVELS TEXT` | `ok` and the number of an expression's instructions, or the refusal's name |
@@ -55,10 +57,12 @@
 
 mod answer;
 mod arithmetic;
+mod braces;
 mod bytes;
 mod eapis;
 mod entries;
 mod fault;
+mod faults;
 mod functions;
 mod marks;
 mod names;

@@ -1,9 +1,11 @@
 use crate::answer::{Answer, Style};
 use crate::arithmetic::{arith, read};
+use crate::braces::braces;
 use crate::bytes::{digest, read_digest, signed, unquoted, unsigned, words};
 use crate::eapis::{eapi, key, phase, phases};
 use crate::entries::{entry, make};
 use crate::fault::Fault;
+use crate::faults::fault;
 use crate::functions::funcs;
 use crate::names::{form, names, paths};
 use crate::operators::{operate, parameters, slice, substring};
@@ -53,6 +55,7 @@ fn answer_fields(request: &[u8], fields: &[&[u8]], answer: &mut Answer) -> Resul
         b"funcs" => funcs(fields, answer),
         b"share" => share(fields, answer),
         b"make" => make(fields, answer),
+        b"fault" => fault(fields, answer),
         b"arith" => arith(fields, answer),
         b"read" => read(fields, answer),
         request => {
@@ -86,6 +89,7 @@ fn answer_text(request: &[u8], text: &[u8], answer: &mut Answer) -> Result<(), F
         b"eapi" => eapi(text, answer),
         b"phases" => phases(text, answer),
         b"entry" => entry(text, answer),
+        b"braces" => braces(text, answer),
         b"ansi" => ansi(text, answer),
         b"ansi_value" => ansi_expanded(text, answer),
         request => form(request, text, answer),

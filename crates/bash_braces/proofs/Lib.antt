@@ -1,0 +1,11 @@
+pub mod Alike
+pub mod Capped
+pub mod Counting
+pub mod Cutting
+pub mod Enclosing
+pub mod Joining
+pub mod Levels
+pub mod Naming
+pub mod Placing
+pub mod Stepping
+pub mod Whole

@@ -1,0 +1,17 @@
+//! Brace expansion (Bash Reference Manual, "Brace Expansion").
+#![tactic(auto)]
+
+mod counts;
+mod error;
+mod expansion;
+mod names;
+mod queue;
+mod reading;
+mod role;
+mod sequence;
+mod symbol;
+mod value;
+mod words;
+
+pub use error::BraceErr;
+pub use expansion::braces;

@@ -1,0 +1,8 @@
+// What a word is made of before it has pieces.
+#[derive(Clone, Copy)]
+pub(crate) enum Symbol {
+    // The piece at this place of the word that was read.
+    At(usize),
+    // An unquoted byte of a sequence.
+    Byte(u8),
+}
