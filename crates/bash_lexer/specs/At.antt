@@ -1,0 +1,102 @@
+-- The rules that stand inside a nesting, by how many nestings may still be opened, and the nestings that they open.
+use Rattle.std.specs.Prelude.{ℕ, Bool, false}
+use Rattle.eb_syntax.specs.declared.tree.Items.{Items}
+use Rattle.eb_syntax.specs.declared.tree.Param.{Param}
+use Rattle.eb_syntax.specs.declared.tree.Piece.{Piece}
+use Rattle.eb_syntax.specs.declared.tree.QPiece.{QPiece}
+use Rattle.eb_syntax.specs.declared.tree.Dollar.{Dollar}
+use Rattle.eb_syntax.specs.declared.tree.PW.{PW}
+use Rattle.eb_syntax.specs.Tree.{ArithText, Body, Sub}
+use Rattle.eb_bytes.specs.Text.{Text}
+use Rattle.eb_grammar.specs.declared.class.Class.{Class}
+use Rattle.eb_grammar.specs.declared.class.Class.TheVariants as class
+use Rattle.eb_grammar.specs.Classes.{byte}
+use Rattle.eb_grammar.specs.Peg.{Rule, ◌>>◌, ◌>>=◌, ◌</>◌, lit, nest, not_at}
+use Rattle.eb_grammar.specs.Names.{name}
+use Rattle.eb_grammar.specs.Rules.{Rules}
+use Rattle.eb_grammar.specs.Grammar.{inside, rules_in}
+use Rattle.eb_grammar.specs.ArithText.{arith, arith_piece, parentheses}
+use Rattle.eb_grammar.specs.Commands.{body, items}
+use Rattle.eb_grammar.specs.Params.{indirect_param, names_param, param, subscript, text_piece}
+use Rattle.eb_grammar.specs.Words.{arith_dollar, dollar, group, group_start, piece, process, process_start, quoted_piece, substitution}
+use Rattle.eb_syntax.specs.declared.tree.AP.{AP}
+
+abbrev pub items_at : ℕ → Rule Items
+items_at n = items (inside n)
+
+abbrev pub body_at : ℕ → Rule Body
+body_at n = body (inside n)
+
+abbrev pub piece_at : ℕ → Rule Piece
+piece_at n = piece (inside n)
+
+abbrev pub quoted_at : ℕ → Rule QPiece
+quoted_at n = quoted_piece (inside n)
+
+abbrev pub dollar_at : Bool → ℕ → Rule Dollar
+dollar_at quoted n = dollar (inside n) quoted
+
+abbrev pub subscript_at : ℕ → Rule Sub
+subscript_at n = subscript (inside n)
+
+abbrev pub arith_at : Bool → ℕ → Rule ArithText
+arith_at quoted n = arith (inside n) quoted
+
+abbrev pub param_at : Bool → ℕ → Rule Param
+param_at quoted n = param (rules_in (inside n)) quoted
+
+-- ---- what opens a nesting
+
+-- ^("$((" Arith "))")
+abbrev pub arith_expansion_at : Bool → ℕ → Rule ArithText
+arith_expansion_at quoted n = nest (inside n) (lit "$((") (arith_dollar quoted)
+
+-- ^("$(" !"(" Items ")")
+abbrev pub substitution_at : ℕ → Rule Items
+substitution_at n = nest (inside n) (lit "$(") substitution
+
+-- ^Param
+abbrev pub param_expansion_at : Bool → ℕ → Rule Param
+param_expansion_at quoted n = nest (inside n) (lit "${") (λ rules. param rules quoted)
+
+-- ^("(" AP* ")")
+abbrev pub parentheses_at : Bool → ℕ → Rule ArithText
+parentheses_at quoted n = nest (inside n) (lit "(") (parentheses quoted)
+
+-- ^(("<(" / ">(") Body ")")
+abbrev pub process_at : ℕ → Rule Piece
+process_at n = nest (inside n) process_start process
+
+-- ^([?*+@!] "(" (Piece / Blank / "|")* ")")
+abbrev pub group_at : ℕ → Rule Piece
+group_at n = nest (inside n) group_start group
+
+-- ---- parts of rules
+
+-- "\\" [$`"\\]
+abbrev pub escaped_in_quotes : Rule ℕ
+escaped_in_quotes = lit "\\" >> byte class.Escaped
+
+-- "$" Name
+abbrev pub dollar_name : Rule Text
+dollar_name = lit "$" >> name
+
+-- "$" and a byte of a class
+abbrev pub dollar_byte : Class → Rule ℕ
+dollar_byte c = lit "$" >> byte c
+
+-- "@" [A-Za-z]
+abbrev pub transform : Rule ℕ
+transform = lit "@" >> byte class.Letter
+
+-- !"/" PW
+abbrev pub pattern_piece : Rules → Rule PW
+pattern_piece inside = not_at (lit "/") >> text_piece inside
+
+-- !";" AP
+abbrev pub arith_part_piece : ℕ → Rule AP
+arith_part_piece n = not_at (lit ";") >> arith_piece (inside n) false
+
+-- "${!" Ref [@*] "}" / "${!" Ref Op? "}"
+abbrev pub marked_param : Rules → Bool → Rule Param
+marked_param inside quoted = names_param inside </> indirect_param inside quoted
