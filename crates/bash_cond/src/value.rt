@@ -3,7 +3,7 @@ ghost use Rattle.shell_vars.specs.Store.{kinds};
 ghost use Rattle.shell_state.specs.Outcome.{Tells};
 ghost use Rattle.shell_state.specs.Spending.{left};
 ghost use Rattle.shell_state.specs.State.{State};
-ghost use Rattle.bash_cond.specs.Arithmetic.{arithmetic_fault as fault_of, evaluates, IsArithmeticFault};
+ghost use Rattle.bash_cond.specs.Arithmetic.{evaluates, IsArithmeticFault};
 
 use bash_arith::{ArithErr, eval};
 use eb_bytes::{Budget, Bytes, Memory, Steps};
