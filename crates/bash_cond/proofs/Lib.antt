@@ -1,0 +1,2 @@
+pub mod Evaluated
+mod Rows
