@@ -23,7 +23,7 @@ use Rattle.arith_syntax.specs.declared.rule.Rule.TheVariants.{Whole, Subscript, 
 use Rattle.arith_syntax.specs.Code.{Code, assigning, code_of, ref_of, program, subscript_code}
 use Rattle.arith_syntax.specs.Expression.{Expression, Variable, Named, Element, Nothing, Constant, ValueOf, Opened, Signed, Incremented, Raised, Joined, Chosen, Assigned}
 use Rattle.arith_syntax.specs.Names.{after_blanks, begins_name, name_at}
-use Rattle.eb_bytes.specs.Class.{is_digit}
+use Rattle.byte_class.specs.Class.{is_digit}
 use Rattle.arith_syntax.specs.Putting.{Puts, PutsVariable, Reads, chosen, inner, is_value_of, loading, past, past_assign, past_byte, past_colon, past_power, past_question, side, storing}
 use Rattle.arith_syntax.specs.Reading.{Reading, Rules, and_then, assigned, assignment, assignment_after, assignment_by, begins, after, binary, by_rule, constant, constant_by, choice_after, choice_by, conditional, ends, joined, variable_value, opened, operand, otherwise, otherwise_by, power, power_after, power_by, primary, reading, signed, pre_incremented, subscript, variable, variable_after, variable_of, whole}
 use Rattle.arith_syntax.specs.Symbols.{first_of, signs, pre_increment, post_increment, symbol_at}

@@ -3,7 +3,7 @@ use Rattle.std.specs.Prelude.{ℕ, ℤ, pos, ◌+◌, ◌-◌, ◌*◌, ◌%◌,
 use Rattle.std.specs.Int.{int_wrap, w64}
 use Rattle.std.specs.List.{prefix_len, list_any, starts_with}
 use Rattle.std.specs.Option.{option_map, option_and_then}
-use Rattle.eb_bytes.specs.Class.{is_digit, is_lower, is_upper, is_name_byte}
+use Rattle.byte_class.specs.Class.{is_digit, is_lower, is_upper, is_name_byte}
 use Rattle.eb_bytes.specs.Text.{Text}
 
 -- what may stand in a constant: digits, letters, `_`, `@` and `#`

@@ -1,7 +1,7 @@
 -- Names and the blanks of an expression (Bash Reference Manual, "Definitions": name).
 use Rattle.std.specs.Prelude.{ℕ, Bool, false, ◌==◌, [], ◌∷◌, take, drop, filter, not, Option, Some, None, if◌then◌else◌}
 use Rattle.std.specs.List.{prefix_len}
-use Rattle.eb_bytes.specs.Class.{is_name_byte, is_name_start, is_space}
+use Rattle.byte_class.specs.Class.{is_name_byte, is_name_start, is_space}
 use Rattle.eb_bytes.specs.Text.{Text}
 
 -- the text from its first byte on that is no blank, tab or newline

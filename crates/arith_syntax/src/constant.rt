@@ -2,7 +2,7 @@ ghost use Rattle.std.specs.Prelude.{◌≡◌, take, drop, position};
 ghost use Rattle.std.specs.Option.{option_and_then, option_map};
 ghost use Rattle.arith_syntax.specs.Constants.{at_most_64, base_of, constant_len, constant_of, digit_of, digit_value, digits, digits_after, is_constant_byte as constant_byte, is_hash, low, plain, written};
 
-use eb_bytes::is_name_byte;
+use byte_class::is_name_byte;
 
 /// What the constant at the front of the text stands for, as far as bytes of constants go, and what follows it (Bash
 /// Reference Manual, "Shell Arithmetic"): a number in base 10, in base 8 after `0`, in base 16 after `0x`, or

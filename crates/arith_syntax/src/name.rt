@@ -2,7 +2,7 @@ ghost use Rattle.std.specs.Prelude.{◌≡◌};
 ghost use Rattle.std.specs.Option.{option_map};
 ghost use Rattle.arith_syntax.specs.Names.{after_blanks, begins_name, name_at, name_len};
 
-use eb_bytes::{is_name_byte, is_name_start, is_space};
+use byte_class::{is_name_byte, is_name_start, is_space};
 use std::marker::Model;
 
 /// A name in a text. Contracts see it as its bytes.

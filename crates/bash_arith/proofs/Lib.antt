@@ -2,4 +2,4 @@ mod Compiled
 mod Executed
 mod Powers
 mod Rows
-mod Traces
+pub mod Traces

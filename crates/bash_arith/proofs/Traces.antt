@@ -18,7 +18,7 @@ use Rattle.bash_arith.specs.declared.error.ArithErr.{ArithErr}
 use Rattle.bash_arith.specs.Machine.{Next, Stack, below, executed, run, subscript, text_of, top, without_subscript}
 use Rattle.bash_arith.specs.Numbers.{is_zero, truth, operated, signed, raised, incremented}
 use Rattle.bash_arith.specs.Outcome.{State, Outcome, Ended, Faulted, Changed, Passes, and_then, left_of, paid_from}
-use Rattle.bash_arith.specs.Value.{Nestings, Evaluation, Use, answered, assign, chosen, evaluate, inside, joined, nestings_of, read_value, increment, increment_value, text_value, used, valued}
+use Rattle.bash_arith.specs.Value.{Nestings, Evaluation, Use, answered, arithmetic, assign, chosen, evaluate, inside, joined, nestings_of, read_value, increment, increment_value, text_value, used, valued}
 use Rattle.bash_arith.specs.Variables.{after_assignment, evaluated_text, fetched, stored}
 use Rattle.shell_vars.specs.Calls as call
 use Rattle.shell_vars.specs.Refused.{is_refused}
@@ -202,3 +202,8 @@ module _ (n : ℕ) where
 pub text_value_follows : (n : ℕ) (t : Text) → AlwaysFollows (text_value n t)
 unfolding text_value
 text_value_follows n t s = read_follows (nestings_of n) (nestings_follow n) (expression n t) s
+
+-- an evaluation gives no steps back
+pub arithmetic_left : (t : Text) (s : State) → left_of (arithmetic t s) ≤ s.left
+unfolding arithmetic
+arithmetic_left t s = left_at_first (text_value 64 t s) s (text_value_follows 64 t s)

@@ -1,6 +1,6 @@
 -- What an evaluation acts on, how it goes on, and how it ends.
 use Rattle.std.specs.Prelude.{◌≡◌, ◌≢◌, ◌⊎◌, ℕ, zero, suc, ◌-◌, ℤ, Result, Ok, Err}
-use Rattle.eb_bytes.specs.Spending.{Spending}
+pub use Rattle.eb_bytes.specs.Spending.{Spending, left}
 use Rattle.eb_bytes.specs.Text.{Text}
 use Rattle.shell_vars.specs.Store.{Store}
 use Rattle.shell_vars.specs.Stores.{Stores}
@@ -51,10 +51,6 @@ paid_from (suc n) s f = Changed s (f (record s { left = n }))
 -- spends a step, and goes on if it was left
 abbrev pub paid : State → (State → Outcome) → Outcome
 paid s f = paid_from s.left s f
-
--- how many steps of a budget are left
-abbrev pub left : Spending → ℕ
-left b = b.limit - b.used
 
 abbrev pub state : Stores → Spending → State
 state vars budget = record { store = vars.present; left = left budget }

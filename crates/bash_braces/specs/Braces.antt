@@ -1,6 +1,6 @@
 -- Brace expansion of a word (Bash Reference Manual, "Brace Expansion").
 use Rattle.std.specs.Prelude.{ℕ, ◌<◌, Bool, ◌&&◌, false, List, [], ◌∷◌, ◌++◌, length, map, Option, Some, None, if◌then◌else◌}
-use Rattle.eb_bytes.specs.Class.{is_name_byte, is_name_start}
+use Rattle.byte_class.specs.Class.{is_name_byte, is_name_start}
 use Rattle.eb_bytes.specs.Text.{Text}
 use Rattle.eb_syntax.specs.declared.tree.Dollar.TheVariants as dollar
 use Rattle.eb_syntax.specs.declared.tree.Piece.{Piece}

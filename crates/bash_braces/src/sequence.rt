@@ -2,7 +2,8 @@ ghost use Rattle.std.specs.Prelude.{◌≡◌, ◌++◌, ◌+ℤ◌, drop, repli
 ghost use Rattle.bash_braces.specs.Sequences.{begins_with_dots, between, cut, is_padded, letter, move, padded, sequence, sign, width};
 ghost use Rattle.std.specs.Int.{w64};
 
-use eb_bytes::{Bytes, Memory, decimal, is_letter, read_signed};
+use byte_class::is_letter;
+use eb_bytes::{Bytes, Memory, decimal, read_signed};
 use std::alloc::Global;
 
 // How a sequence's texts are written.

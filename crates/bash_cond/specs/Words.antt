@@ -7,7 +7,7 @@
 use Rattle.std.specs.Prelude.{ℕ, zero, suc, ℤ, Bool, true, false, ◌&&◌, ◌||◌, not, ◌==◌, List, [], ◌∷◌, codes, is_some, length, unwrap_or, Option, Some, None, Result, Ok, Err, if◌then◌else◌}
 use Rattle.std.specs.Option.{option_map}
 use Rattle.std.specs.Str.{bytes_eq}
-use Rattle.eb_bytes.specs.Class.{is_letter, is_name}
+use Rattle.byte_class.specs.Class.{is_letter, is_name}
 use Rattle.eb_bytes.specs.Numbers.{signed_number}
 use Rattle.eb_bytes.specs.Text.{Text, has_bytes}
 use Rattle.eb_syntax.specs.declared.parts.BinOp.{BinOp}

@@ -1,7 +1,7 @@
 ghost use Rattle.std.specs.Prelude.{◌≡◌};
 ghost use Rattle.eb_grammar.specs.Classes as classes;
 
-use eb_bytes::{is_digit, is_letter, is_name_byte, is_name_start, is_newline, is_nul};
+use byte_class::{is_digit, is_letter, is_name_byte, is_name_start, is_newline, is_nul};
 use eb_grammar::Class;
 
 /// Whether a byte is of a class of the grammar.

@@ -1,7 +1,7 @@
 -- The case operators (Bash Reference Manual, "Shell Parameter Expansion"), in ASCII. A pattern stands here as what it
 -- says of each text.
 use Rattle.std.specs.Prelude.{ℕ, ◌+◌, ◌-◌, Bool, [], ◌∷◌, map, if◌then◌else◌}
-use Rattle.eb_bytes.specs.Class.{is_lower, is_upper}
+use Rattle.byte_class.specs.Class.{is_lower, is_upper}
 use Rattle.eb_bytes.specs.Text.{Text}
 use Rattle.bash_params.specs.declared.operator.CaseOp.{CaseOp}
 use Rattle.bash_params.specs.declared.operator.CaseOp.TheVariants.{UpFirst, UpAll, DownFirst, DownAll}

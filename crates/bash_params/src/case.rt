@@ -4,7 +4,8 @@ ghost use Rattle.bash_params.specs.Case.{case_changed, changed as changed_by, ea
 
 use crate::operator::CaseOp;
 use bash_patterns::Pattern;
-use eb_bytes::{Bytes, Memory, is_lower, is_upper};
+use byte_class::{is_lower, is_upper};
+use eb_bytes::{Bytes, Memory};
 use std::alloc::Global;
 
 // What letters are made.

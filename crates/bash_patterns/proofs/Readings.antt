@@ -2,7 +2,7 @@
 use Rattle.std.proofs.Common.{◌≡◌, ℕ, zero, suc, ◌+◌, ◌-◌, ◌<◌, ◌≤◌, Bool, List, [], ◌∷◌, ◌++◌, length, map, drop, Option, Some, None, Result, Err, Bor, get_or, refl, ap, subst, sym, ◌∙◌, arith, append_assoc}
 use Rattle.std.specs.Option.{option_map}
 use Rattle.std.proofs.lemmas.List.{append-nil, drop_all, drop_more, map-append}
-use Rattle.eb_bytes.specs.declared.marked.Mark.{Mark}
+use Rattle.shell_marks.specs.declared.marked.Mark.{Mark}
 use Rattle.bash_patterns.specs.declared.group.GroupKind.{GroupKind}
 use Rattle.bash_patterns.specs.declared.join.Join.TheVariants as join
 use Rattle.bash_patterns.specs.declared.node.Node.{Node}

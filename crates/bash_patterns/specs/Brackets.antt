@@ -1,7 +1,7 @@
 -- Bracket expressions: which bytes they match (Bash Reference Manual, "Pattern Matching").
 use Rattle.std.specs.Prelude.{ℕ, Bool, ◌==◌, ◌&&◌, ◌||◌, not, nat_le, if◌then◌else◌}
 use Rattle.std.specs.List.{list_any}
-use Rattle.eb_bytes.specs.Class.{is_blank, is_digit, is_letter, is_letter_or_digit, is_lower, is_upper}
+use Rattle.byte_class.specs.Class.{is_blank, is_digit, is_letter, is_letter_or_digit, is_lower, is_upper}
 use Rattle.bash_patterns.specs.declared.class.Class.{Class}
 use Rattle.bash_patterns.specs.declared.class.Class.TheVariants.{Alnum, Alpha, Blank, Cntrl, Digit, Graph, Lower, Print, Punct, Space, Upper, Xdigit}
 use Rattle.bash_patterns.specs.declared.bracket.Member.{Member}

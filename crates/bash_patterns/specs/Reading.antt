@@ -1,7 +1,7 @@
 -- How the marks of a pattern are read into its form (Bash Reference Manual, "Pattern Matching").
 use Rattle.std.specs.Prelude.{ℕ, zero, suc, ◌-◌, Bool, List, [], ◌∷◌, ◌++◌, length, map, Option, Some, None, if◌then◌else◌}
 use Rattle.std.specs.Option.{option_map}
-use Rattle.eb_bytes.specs.declared.marked.Mark.{Mark}
+use Rattle.shell_marks.specs.declared.marked.Mark.{Mark}
 use Rattle.bash_patterns.specs.declared.group.GroupKind.{GroupKind}
 use Rattle.bash_patterns.specs.declared.group.GroupKind.TheVariants as kind
 use Rattle.bash_patterns.specs.declared.symbol.Symbol.{Symbol}

@@ -1,7 +1,7 @@
 -- The symbols of a pattern: its bytes, and which are quoted.
 use Rattle.std.specs.Prelude.{ℕ, Bool, true, false, ◌==◌, List, [], ◌∷◌, if◌then◌else◌}
-use Rattle.eb_bytes.specs.declared.marked.Mark.{Mark}
-use Rattle.eb_bytes.specs.declared.marked.Mark.TheVariants as mark
+use Rattle.shell_marks.specs.declared.marked.Mark.{Mark}
+use Rattle.shell_marks.specs.declared.marked.Mark.TheVariants as mark
 use Rattle.bash_patterns.specs.declared.symbol.Symbol.{Symbol}
 use Rattle.bash_patterns.specs.declared.symbol.Symbol.TheVariants.{Unquoted, Quoted}
 use Rattle.bash_patterns.specs.declared.symbol.Role.{Role}

@@ -4,7 +4,7 @@ ghost use Rattle.bash_patterns.specs.Bracketed.{all_classes, begins_unquoted, cl
 ghost use Rattle.bash_patterns.specs.Brackets.{in_class};
 
 use crate::symbol::Symbol;
-use eb_bytes::{is_blank, is_digit, is_letter, is_letter_or_digit, is_lower, is_upper};
+use byte_class::{is_blank, is_digit, is_letter, is_letter_or_digit, is_lower, is_upper};
 use std::cmp::Ordering;
 
 /// The character classes of POSIX, in ASCII.

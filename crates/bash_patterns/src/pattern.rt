@@ -14,7 +14,8 @@ use crate::read::read;
 use crate::symbol::symbols_of;
 use crate::walk::walk;
 use crate::way::{Goal, Way};
-use eb_bytes::{Marked, Memory};
+use eb_bytes::Memory;
+use shell_marks::Marked;
 use std::alloc::Global;
 
 // How many groups may be nested.

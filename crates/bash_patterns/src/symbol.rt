@@ -1,7 +1,8 @@
 ghost use Rattle.std.specs.Prelude.{◌≡◌, [], ◌∷◌, IfOk, MatchOption};
 ghost use Rattle.bash_patterns.specs.Symbols.{byte_of, byte_role, role_of, symbols_of};
 
-use eb_bytes::{Mark, Memory};
+use eb_bytes::Memory;
+use shell_marks::Mark;
 use std::alloc::Global;
 
 /// A byte of a pattern, and whether it is quoted.

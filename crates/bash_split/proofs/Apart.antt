@@ -1,8 +1,8 @@
 -- What a break parts.
 use Rattle.std.proofs.Common.{◌≡◌, Bool, true, false, List, [], ◌∷◌, ◌++◌, refl, ap}
 use Rattle.std.specs.Prelude.{◌||◌}
-use Rattle.eb_bytes.specs.declared.marked.Mark.{Mark}
-use Rattle.eb_bytes.specs.declared.marked.Mark.TheVariants.{Break}
+use Rattle.shell_marks.specs.declared.marked.Mark.{Mark}
+use Rattle.shell_marks.specs.declared.marked.Mark.TheVariants.{Break}
 use Rattle.eb_bytes.specs.Text.{Text}
 use Rattle.bash_split.specs.declared.role.Role.{Role}
 use Rattle.bash_split.specs.declared.role.Role.TheVariants.{Part, Blank, Separator, Border}

@@ -2,7 +2,7 @@
 use Rattle.std.proofs.Common.{◌≡◌, Bool, true, false, not, cond, List, [], ◌∷◌, refl, sym, ap, ◌∙◌}
 use Rattle.std.specs.Prelude.{◌||◌}
 use Rattle.std.specs.List.{list_all, slice_split, onto_first}
-use Rattle.eb_bytes.specs.declared.marked.Mark.{Mark}
+use Rattle.shell_marks.specs.declared.marked.Mark.{Mark}
 use Rattle.eb_bytes.specs.Text.{Text}
 use Rattle.bash_split.specs.declared.role.Role.{Role}
 use Rattle.bash_split.specs.declared.role.Role.TheVariants.{Part, Blank, Separator, Border}

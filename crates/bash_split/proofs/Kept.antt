@@ -2,8 +2,8 @@
 use Rattle.std.proofs.Common.{◌≡◌, Bool, true, false, List, [], ◌∷◌, filter, cond, refl, ap}
 use Rattle.std.proofs.lemmas.Bool.{and_parts}
 use Rattle.std.specs.List.{flat_map, list_all}
-use Rattle.eb_bytes.specs.declared.marked.Mark.{Mark}
-use Rattle.eb_bytes.specs.declared.marked.Mark.TheVariants.{Literal, Result, Quoted, Empty, Break}
+use Rattle.shell_marks.specs.declared.marked.Mark.{Mark}
+use Rattle.shell_marks.specs.declared.marked.Mark.TheVariants.{Literal, Result, Quoted, Empty, Break}
 use Rattle.eb_bytes.specs.Text.{Text}
 use Rattle.bash_split.specs.declared.role.Role.{Role}
 use Rattle.bash_split.specs.declared.role.Role.TheVariants.{Part, Blank, Separator, Border}

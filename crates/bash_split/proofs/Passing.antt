@@ -2,7 +2,7 @@
 use Rattle.std.proofs.Common.{◌≡◌, Bool, true, false, List, [], ◌∷◌, ◌++◌, append_assoc, refl, ap}
 use Rattle.std.proofs.lemmas.List.{append-nil}
 use Rattle.std.specs.Prelude.{if◌then◌else◌}
-use Rattle.eb_bytes.specs.declared.marked.Mark.{Mark}
+use Rattle.shell_marks.specs.declared.marked.Mark.{Mark}
 use Rattle.eb_bytes.specs.Text.{Text}
 use Rattle.bash_split.specs.declared.role.Role.{Role}
 use Rattle.bash_split.specs.declared.role.Role.TheVariants.{Part, Blank, Separator, Border}

@@ -1,9 +1,9 @@
 -- Word splitting: the fields of a list of marks (Bash Reference Manual, "Word Splitting").
 use Rattle.std.specs.Prelude.{ℕ, Bool, true, false, ◌==◌, ◌||◌, List, [], ◌∷◌, if◌then◌else◌}
 use Rattle.std.specs.List.{list_any, onto_first}
-use Rattle.eb_bytes.specs.declared.marked.Mark.{Mark}
-use Rattle.eb_bytes.specs.declared.marked.Mark.TheVariants.{Literal, Result, Quoted, Empty, Break}
-use Rattle.eb_bytes.specs.Class.{is_space}
+use Rattle.shell_marks.specs.declared.marked.Mark.{Mark}
+use Rattle.shell_marks.specs.declared.marked.Mark.TheVariants.{Literal, Result, Quoted, Empty, Break}
+use Rattle.byte_class.specs.Class.{is_space}
 use Rattle.eb_bytes.specs.Text.{Text}
 use Rattle.bash_split.specs.declared.role.Role.{Role}
 use Rattle.bash_split.specs.declared.role.Role.TheVariants.{Part, Blank, Separator, Border}

@@ -1,7 +1,7 @@
 -- The laws of word splitting.
 use Rattle.std.specs.Prelude.{Bool, true, false, not, List, [], ◌∷◌}
-use Rattle.eb_bytes.specs.declared.marked.Mark.{Mark}
-use Rattle.eb_bytes.specs.declared.marked.Mark.TheVariants.{Literal, Result, Quoted, Empty, Break}
+use Rattle.shell_marks.specs.declared.marked.Mark.{Mark}
+use Rattle.shell_marks.specs.declared.marked.Mark.TheVariants.{Literal, Result, Quoted, Empty, Break}
 use Rattle.eb_bytes.specs.Text.{Text}
 use Rattle.bash_split.specs.declared.role.Role.{Role}
 use Rattle.bash_split.specs.declared.role.Role.TheVariants.{Part, Blank, Separator, Border}

@@ -1,6 +1,6 @@
 -- The pass over the marks: the fields that are still to end.
 use Rattle.std.specs.Prelude.{◌≡◌, List, [], ◌∷◌, ◌++◌, if◌then◌else◌}
-use Rattle.eb_bytes.specs.declared.marked.Mark.{Mark}
+use Rattle.shell_marks.specs.declared.marked.Mark.{Mark}
 use Rattle.eb_bytes.specs.Text.{Text}
 use Rattle.bash_split.specs.declared.place.Place.{Place}
 use Rattle.bash_split.specs.declared.place.Place.TheVariants.{Outside, Within, After}

@@ -3,7 +3,8 @@ ghost use Rattle.bash_split.specs.Fields.{fields};
 
 use crate::place::Place;
 use crate::role::Ifs;
-use eb_bytes::{Marked, Memory};
+use eb_bytes::Memory;
+use shell_marks::Marked;
 use std::alloc::Global;
 
 /// The fields of a list of marks, split by the bytes of `ifs` (Bash Reference Manual, "Word Splitting").

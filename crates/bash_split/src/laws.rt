@@ -1,8 +1,8 @@
 ghost use Rattle.std.specs.Prelude.{◌≡◌, true, filter, List, [], ◌∷◌, ◌++◌, ◌||◌, not};
 ghost use Rattle.std.specs.List.{flat_map, list_all, slice_split};
 ghost use Rattle.eb_bytes.specs.Text.{Text};
-ghost use Rattle.eb_bytes.specs.declared.marked.Mark.{Mark};
-ghost use Rattle.eb_bytes.specs.declared.marked.Mark.TheVariants.{Break};
+ghost use Rattle.shell_marks.specs.declared.marked.Mark.{Mark};
+ghost use Rattle.shell_marks.specs.declared.marked.Mark.TheVariants.{Break};
 ghost use Rattle.bash_split.specs.Fields.{fields};
 ghost use Rattle.bash_split.specs.Laws.{divides, has_marks, is_break, is_fixed, is_separator, stays, without_empty_end};
 

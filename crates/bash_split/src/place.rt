@@ -1,7 +1,8 @@
 ghost use Rattle.std.specs.Prelude.{◌≡◌, [], ◌++◌, ◌∷◌, IfOk, OnOk, List};
 
 use crate::role::{Ifs, Role};
-use eb_bytes::{Mark, Marked, Memory};
+use eb_bytes::Memory;
+use shell_marks::{Mark, Marked};
 use std::alloc::Global;
 
 // Where a pass over marks is.

@@ -1,7 +1,8 @@
 ghost use Rattle.std.specs.Prelude.{◌≡◌};
 ghost use Rattle.bash_split.specs.Table.{IsTableOf};
 
-use eb_bytes::{Mark, is_space};
+use byte_class::is_space;
+use shell_marks::Mark;
 use std::marker::Model;
 
 // What a mark does where marks are split.

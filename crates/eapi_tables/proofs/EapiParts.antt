@@ -6,7 +6,7 @@ use Rattle.std.specs.Prelude.{codes}
 use Rattle.std.specs.List.{AllPass, prefix_len}
 use Rattle.std.proofs.lemmas.List.{take-append-drop, append_cancel_left, length-take, take_rest}
 use Rattle.std.proofs.lemmas.List.Elements.{All-append, All-cons, All-nil}
-use Rattle.eb_bytes.specs.Class.{is_blank}
+use Rattle.byte_class.specs.Class.{is_blank}
 use Rattle.eb_bytes.specs.Text.{Text}
 use Rattle.eapi_tables.specs.EapiLine.{is_eapi_byte, IsMatched, IsQuote, IsTail, MatchesEapi, or_zero}
 use Rattle.eapi_tables.specs.EapiValue.{Closes, Finds, IsEnding, IsValueOf}

@@ -7,7 +7,7 @@ use Rattle.std.proofs.lemmas.List.{take-append-drop}
 use Rattle.std.proofs.lemmas.Option.{cond_some}
 use Rattle.std.proofs.lemmas.Slice.Eq.{bytes_eq-Decides}
 use Rattle.std.proofs.Math.Seq.{drop-append_seam, take-append_seam}
-use Rattle.eb_bytes.specs.Class.{is_blank}
+use Rattle.byte_class.specs.Class.{is_blank}
 use Rattle.eb_bytes.specs.Text.{Text}
 use Rattle.eapi_tables.specs.EapiLine.{is_eapi_byte, opening_line, IsEapiText, IsMatched, IsQuote, IsUnmatched, MatchesEapi, or_zero}
 use Rattle.eapi_tables.specs.EapiValue.{Closes, IsEnding, IsValueOf}

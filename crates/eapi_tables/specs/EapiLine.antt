@@ -3,7 +3,7 @@
 use Rattle.std.specs.Prelude.{◌≡◌, ◌⊎◌, ℕ, Bool, false, not, ◌==◌, ◌||◌, [], ◌∷◌, ◌++◌, Option, codes, IsTrue, MatchOption}
 use Rattle.std.specs.List.{AllPass, find}
 use Rattle.std.specs.Option.{option_map_or}
-use Rattle.eb_bytes.specs.Class.{is_blank, is_letter_or_digit}
+use Rattle.byte_class.specs.Class.{is_blank, is_letter_or_digit}
 use Rattle.eb_bytes.specs.Text.{Text, lines}
 
 -- the line isn't blank, and its first byte after blanks and tabs isn't `#`

@@ -1,7 +1,7 @@
 -- The parts of a line that names its EAPI, from the right to the left.
 use Rattle.std.specs.Prelude.{Option, MatchOption, ◌≡◌, ◌++◌}
 use Rattle.std.specs.List.{AllPass}
-use Rattle.eb_bytes.specs.Class.{is_blank}
+use Rattle.byte_class.specs.Class.{is_blank}
 use Rattle.eb_bytes.specs.Text.{Text}
 use Rattle.eapi_tables.specs.EapiLine.{is_eapi_byte, IsQuote, IsTail}
 

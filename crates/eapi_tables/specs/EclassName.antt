@@ -1,7 +1,7 @@
 -- The names of eclasses (Package Manager Specification, "Eclass names").
 use Rattle.std.specs.Prelude.{◌≢◌, ℕ, Bool, false, ◌==◌, ◌||◌, [], ◌∷◌, IsTrue, codes}
 use Rattle.std.specs.List.{AllPass}
-use Rattle.eb_bytes.specs.Class.{is_name_byte, is_name_start}
+use Rattle.byte_class.specs.Class.{is_name_byte, is_name_start}
 use Rattle.eb_bytes.specs.Text.{Text}
 
 -- a byte of an eclass's name: an ASCII letter or digit, an underscore, a full stop or a hyphen

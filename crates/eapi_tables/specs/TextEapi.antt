@@ -2,7 +2,7 @@
 use Rattle.std.specs.Prelude.{Bool, true, false, ◌==◌, ◌||◌, [], ◌∷◌, length, take, drop, Option, Some, None, nat_eq, codes, if◌then◌else◌}
 use Rattle.std.specs.Cmp.Lexicographic.{pointwise}
 use Rattle.std.specs.List.{prefix_len}
-use Rattle.eb_bytes.specs.Class.{is_blank}
+use Rattle.byte_class.specs.Class.{is_blank}
 use Rattle.eb_bytes.specs.Text.{Text}
 use Rattle.eapi_tables.specs.EapiLine.{is_eapi_byte, opening_line, or_zero}
 

@@ -2,7 +2,7 @@ ghost use Rattle.std.specs.Prelude.{◌≡◌, ◌↔◌, IsTrue};
 ghost use Rattle.std.specs.List.{AllPass};
 ghost use Rattle.eapi_tables.specs.EclassName.{IsEclassName, begins_name, is_eclass_name_byte};
 
-use eb_bytes::{is_name_byte, is_name_start};
+use byte_class::{is_name_byte, is_name_start};
 
 /// Whether a text has the form of an eclass's name (Package Manager Specification, "Eclass names"): ASCII letters,
 /// digits, `_`, `.` and `-`, a letter or `_` first, and not `default`. Takes no memory.

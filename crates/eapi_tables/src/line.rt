@@ -1,12 +1,12 @@
 ghost use Rattle.std.specs.Prelude.{◌≡◌, ◌⊎◌, ◌++◌, ◌↔◌, drop, not, length, IsTrue};
 ghost use Rattle.std.specs.List.{find, prefix_len};
 ghost use Rattle.std.specs.Option.{option_copied};
-ghost use Rattle.eb_bytes.specs.Class.{is_blank as blank_byte};
+ghost use Rattle.byte_class.specs.Class.{is_blank as blank_byte};
 ghost use Rattle.eapi_tables.specs.EapiLine.{has_content as content, is_eapi_byte as eapi_byte, opening_line as opening, IsEapiText, IsMatched, IsQuote, IsUnmatched, MatchesEapi};
 ghost use Rattle.eapi_tables.specs.TextEapi.{text_eapi};
 ghost use Rattle.eapi_tables.specs.EapiValue.{Closes, Finds, IsEnding, IsValueOf};
 
-use eb_bytes::{is_blank, is_letter_or_digit, is_newline};
+use byte_class::{is_blank, is_letter_or_digit, is_newline};
 
 /// The EAPI that the text of an ebuild names, as its bytes: by its first line that is neither blank nor a comment, and
 /// `0` where that line names none, or an empty one, or where there is no such line. Takes no memory.

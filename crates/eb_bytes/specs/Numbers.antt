@@ -2,7 +2,7 @@
 use Rattle.std.specs.Prelude.{ℤ, pos, negsuc, ◌^◌, Bool, ◌&&◌, Option, Some, None, if◌then◌else◌, nat_lt}
 use Rattle.std.specs.List.{list_all}
 use Rattle.std.specs.Str.Parse.{signed_digits_value, without_leading_sign}
-use Rattle.eb_bytes.specs.Class.{is_digit}
+use Rattle.byte_class.specs.Class.{is_digit}
 use Rattle.eb_bytes.specs.Text.{Text, has_bytes}
 
 -- one decimal digit or more, and nothing else

@@ -1,7 +1,7 @@
 -- Texts, their words and their lines.
 use Rattle.std.specs.Prelude.{ℕ, Bool, List, [], ◌∷◌, true, false, filter}
 use Rattle.std.specs.List.{slice_split, join_with_byte}
-pub use Rattle.eb_bytes.specs.Class.{is_blank, is_newline, is_space}
+pub use Rattle.byte_class.specs.Class.{is_blank, is_newline, is_space}
 
 -- a list of bytes
 abbrev pub Text : Type 0

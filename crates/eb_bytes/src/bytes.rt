@@ -49,7 +49,8 @@ impl Bytes {
         }
     }
 
-    pub(crate) fn from_vec(items: Vec<u8>) -> Bytes
+    /// The bytes of a `Vec`. Takes no memory.
+    pub fn from_vec(items: Vec<u8>) -> Bytes
         ensures { result ≡ items.items }
     {
         Bytes { items }

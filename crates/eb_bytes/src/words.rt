@@ -2,7 +2,7 @@ ghost use Rattle.std.specs.Prelude.{◌≡◌, IfOk};
 ghost use Rattle.eb_bytes.specs.Text.{words, norm};
 
 use crate::bytes::{Bytes, Memory};
-use crate::class::is_space;
+use byte_class::is_space;
 use std::alloc::Global;
 
 /// The words of a text, in order.

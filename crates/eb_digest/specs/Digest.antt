@@ -1,7 +1,7 @@
 -- A digest's bytes, and the text that writes them.
 use Rattle.std.specs.Prelude.{◌≡◌, ℕ, Bool, length, nat_le, ◌&&◌, ◌||◌}
 use Rattle.std.specs.List.{AllPass}
-use Rattle.eb_bytes.specs.Class.{is_digit}
+use Rattle.byte_class.specs.Class.{is_digit}
 use Rattle.eb_bytes.specs.Text.{Text}
 use Rattle.hex.specs.Hex.{IsBytes, encode_lower}
 

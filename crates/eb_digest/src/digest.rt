@@ -3,7 +3,8 @@ ghost use Rattle.std.specs.List.{AllPass};
 ghost use Rattle.md5.specs.Md5.{md5};
 ghost use Rattle.eb_digest.specs.Digest.{IsDigest, IsDigestText, digest_text, is_lower_digit};
 
-use eb_bytes::{Bytes, Memory, is_digit};
+use byte_class::is_digit;
+use eb_bytes::{Bytes, Memory};
 use hex::FromHex;
 use md5::{Digest as _, Md5};
 use std::alloc::Global;

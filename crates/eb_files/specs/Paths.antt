@@ -1,7 +1,7 @@
 -- Paths: lists of bytes, not empty and without byte 0.
 use Rattle.std.specs.Prelude.{ℕ, ◌-◌, Bool, ◌==◌, ◌&&◌, not, if◌then◌else◌, take, length, Option, Some, None}
 use Rattle.std.specs.List.{list_any, suffix_len}
-use Rattle.eb_bytes.specs.Class.{is_nul}
+use Rattle.byte_class.specs.Class.{is_nul}
 use Rattle.eb_bytes.specs.Text.{Text, has_bytes}
 
 abbrev pub is_slash : ℕ → Bool

@@ -1,7 +1,7 @@
 -- What the text between `$'` and `'` stands for. Bash Reference Manual, "ANSI-C Quoting".
 use Rattle.std.specs.Prelude.{ℕ, zero, suc, ◌+◌, ◌*◌, ◌-◌, ◌%◌, Bool, true, false, ◌==◌, ◌||◌, ◌&&◌, nat_le, Option, Some, None, List, [], ◌∷◌, ◌++◌, length, take, drop, if◌then◌else◌}
 use Rattle.std.specs.List.{list_any, take_while}
-use Rattle.eb_bytes.specs.Class.{is_digit}
+use Rattle.byte_class.specs.Class.{is_digit}
 use Rattle.eb_bytes.specs.Text.{Text}
 use Rattle.eb_grammar.specs.declared.ansi.Base.{Base}
 use Rattle.eb_grammar.specs.declared.ansi.Base.TheVariants.{Octal, Hexadecimal}

@@ -1,6 +1,6 @@
 -- The classes of bytes. No class holds the byte 0.
 use Rattle.std.specs.Prelude.{ℕ, Bool, not, ◌||◌}
-use Rattle.eb_bytes.specs.Class.{is_digit, is_letter, is_name_byte, is_name_start, is_newline, is_nul}
+use Rattle.byte_class.specs.Class.{is_digit, is_letter, is_name_byte, is_name_start, is_newline, is_nul}
 use Rattle.eb_bytes.specs.Text.{Text}
 use Rattle.eb_grammar.specs.declared.class.Class.{Class}
 use Rattle.eb_grammar.specs.declared.class.Class.TheVariants.{Any, NotNewline, Meta, Digit, Letter, NameStart, NamePart, Plain, FunctionName, Single, Ansi, Escaped, Double, Back, Unescaped, GroupMark, AfterDollar, Special, AllElements, SliceEnd, Slice, Arith, Bracket, LineEnd}

@@ -19,7 +19,8 @@ ghost use Rattle.eb_grammar.specs.AnsiText.{
   value_from,
 };
 
-use eb_bytes::{Bytes, Memory, is_digit};
+use byte_class::is_digit;
+use eb_bytes::{Bytes, Memory};
 use std::alloc::Global;
 use thiserror::Error;
 

@@ -4,7 +4,7 @@ use Rattle.std.specs.List.{list_all}
 use Rattle.std.proofs.lemmas.List.{append-nil}
 use Rattle.std.proofs.lemmas.List.Folds.{list_all-append}
 use Rattle.eb_bytes.specs.Text.{Text, has_bytes}
-use Rattle.eb_bytes.specs.Class.{is_digit, is_lower}
+use Rattle.byte_class.specs.Class.{is_digit, is_lower}
 use Rattle.version_funcs.specs.Byte.{is_no}
 use Rattle.version_funcs.specs.Version.{Version, IsWellFormed, is_none_or, is_number, marked, spelled_letter, spelled_suffix, spelled_revision, spelling}
 use Rattle.version_funcs.proofs.Marks.{Cut, stops, take_while-cut, after_while-cut, first_true, rest_true, both_true}

@@ -2,7 +2,7 @@
 use Rattle.std.specs.Prelude.{◌≡◌, ℕ, Bool, true, false, ◌==◌, ◌&&◌, ◌||◌, not, [], ◌∷◌, ◌++◌}
 use Rattle.std.specs.List.{list_all}
 use Rattle.eb_bytes.specs.Text.{Text, has_bytes}
-use Rattle.eb_bytes.specs.Class.{is_letter_or_digit, is_name_byte}
+use Rattle.byte_class.specs.Class.{is_letter_or_digit, is_name_byte}
 use Rattle.version_funcs.specs.Version.{IsVersionText}
 
 -- ---- bytes

@@ -2,11 +2,11 @@ ghost use Rattle.std.specs.Prelude.{◌≡◌, ◌↔◌, ◌&&◌, IsTrue};
 ghost use Rattle.std.specs.List.{list_all};
 ghost use Rattle.eb_bytes.specs.Text.{has_bytes};
 ghost use Rattle.version_funcs.specs.Walk.{is_version_text};
-ghost use Rattle.eb_bytes.specs.Class.{is_letter_or_digit};
+ghost use Rattle.byte_class.specs.Class.{is_letter_or_digit};
 ghost use Rattle.ebuild_names.specs.Form.{begins, IsPackageName, is_category_byte as is_category_byte_value, is_category_name, is_flag_byte as is_flag_byte_value, is_flag_name, is_package_byte as is_package_byte_value, is_dot, is_sign};
 ghost use Rattle.ebuild_names.specs.Walk.{ends_in_version as ends_in_version_text, is_hyphen_and_version as is_hyphen_and_version_text, is_package_text};
 
-use eb_bytes::{is_letter_or_digit, is_name_byte};
+use byte_class::{is_letter_or_digit, is_name_byte};
 use version_funcs::read_version;
 
 // Whether a package's name may have this byte.

@@ -6,7 +6,7 @@ use Rattle.std.proofs.lemmas.Bool.{eqb-true}
 use Rattle.std.proofs.lemmas.List.{take-append-drop}
 use Rattle.std.proofs.lemmas.List.Sums.{take_while-cons}
 use Rattle.std.proofs.lemmas.Option.{cond_some}
-use Rattle.eb_bytes.specs.Class.{is_blank, is_name, is_name_byte, is_name_start, is_nul}
+use Rattle.byte_class.specs.Class.{is_blank, is_name, is_name_byte, is_name_start, is_nul}
 use Rattle.eb_bytes.specs.Text.{Text}
 use Rattle.egencache.specs.Plain.{Nothing, Assigns, Other, after_while, assigned_line, bare_value, before_blanks, closed_value, is_bare, is_quotable, line_from, plain_line, spelled_value, with_value}
 use Rattle.egencache.specs.PlainForm.{IsAssignment, IsNothing, IsSpelling}

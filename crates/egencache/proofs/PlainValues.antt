@@ -3,7 +3,7 @@ use Rattle.std.proofs.Common.{◌≡◌, ◌≢◌, ℕ, ◌+◌, ◌<◌, Bool,
 use Rattle.std.specs.List.{AllByRecursion, list_all, list_any, prefix_len, take_while}
 use Rattle.std.proofs.lemmas.Option.{cond_some}
 use Rattle.std.proofs.lemmas.List.Elements.{All-cons}
-use Rattle.eb_bytes.specs.Class.{is_blank, is_name, is_name_byte, is_nul}
+use Rattle.byte_class.specs.Class.{is_blank, is_name, is_name_byte, is_nul}
 use Rattle.eb_bytes.specs.Text.{Text, has_bytes, norm}
 use Rattle.md5_cache.specs.Entry.{HasNoZero, named_eapi}
 use Rattle.eapi_tables.specs.declared.eapi.Eapi.{Eapi}

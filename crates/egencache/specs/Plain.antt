@@ -1,7 +1,7 @@
 -- Lines of an ebuild that need no shell: blank lines, comments, and assignments of plain values.
 use Rattle.std.specs.Prelude.{ℕ, Bool, ◌==◌, ◌&&◌, ◌||◌, not, [], ◌∷◌, drop, Option, Some, None, if◌then◌else◌}
 use Rattle.std.specs.List.{list_all, list_any, prefix_len, take_while}
-use Rattle.eb_bytes.specs.Class.{is_blank, is_letter_or_digit, is_name, is_name_byte, is_nul}
+use Rattle.byte_class.specs.Class.{is_blank, is_letter_or_digit, is_name, is_name_byte, is_nul}
 use Rattle.eb_bytes.specs.Text.{Text}
 
 -- ---- bytes

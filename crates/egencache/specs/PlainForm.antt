@@ -1,7 +1,7 @@
 -- The plain lines as they are written.
 use Rattle.std.specs.Prelude.{◌≡◌, ◌⊎◌, true, false, [], ◌∷◌, ◌++◌}
 use Rattle.std.specs.List.{list_all, list_any}
-use Rattle.eb_bytes.specs.Class.{is_blank, is_name, is_nul}
+use Rattle.byte_class.specs.Class.{is_blank, is_name, is_nul}
 use Rattle.eb_bytes.specs.Text.{Text}
 use Rattle.egencache.specs.Plain.{is_bare, is_quotable}
 

@@ -2,7 +2,7 @@
 use Rattle.std.specs.Prelude.{◌&&◌, nat_eq, List, [], ◌∷◌, ◌++◌, Option, Some, None, codes, if◌then◌else◌}
 use Rattle.std.specs.List.{ends_with, list_any, slice_split}
 use Rattle.std.specs.Option.{option_map}
-use Rattle.eb_bytes.specs.Class.{is_nul}
+use Rattle.byte_class.specs.Class.{is_nul}
 use Rattle.eb_bytes.specs.Text.{Text, has_bytes}
 use Rattle.eb_files.specs.Paths.{is_slash, path_of}
 use Rattle.ebuild_names.specs.declared.path.EbuildPath.{EbuildPath}

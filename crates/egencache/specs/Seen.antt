@@ -6,7 +6,7 @@ use Rattle.egencache.specs.declared.plain.Line.{Line}
 use Rattle.egencache.specs.declared.plain.Line.TheVariants as line
 use Rattle.egencache.specs.declared.plain.Class.{Class}
 use Rattle.egencache.specs.declared.plain.Class.TheVariants as class
-use Rattle.eb_bytes.specs.Class.{is_blank, is_name_byte}
+use Rattle.byte_class.specs.Class.{is_blank, is_name_byte}
 use Rattle.egencache.specs.Plain.{PlainLine, Nothing, Assigns, Other, is_bare, is_quotable}
 
 abbrev pub seen : Line → PlainLine

@@ -1,11 +1,11 @@
 ghost use Rattle.std.specs.Prelude.{◌≡◌, position, not};
 ghost use Rattle.std.specs.List.{list_all, prefix_len, take_while};
 ghost use Rattle.std.specs.Option.{option_copied};
-ghost use Rattle.eb_bytes.specs.Class.{is_name_byte as is_name_byte_of};
+ghost use Rattle.byte_class.specs.Class.{is_name_byte as is_name_byte_of};
 ghost use Rattle.egencache.specs.Plain.{after_while, assigned_line, bare_value, before_blanks as before_blanks_text, closed_value, is_quotable as is_quotable_byte, plain_line, spelled_value};
 ghost use Rattle.egencache.specs.Seen.{seen, in_class};
 
-use eb_bytes::{is_blank, is_letter_or_digit, is_name, is_name_byte};
+use byte_class::{is_blank, is_letter_or_digit, is_name, is_name_byte};
 
 /// What a line of an ebuild is, as far as it can be told without a shell.
 #[derive(Clone, Copy)]

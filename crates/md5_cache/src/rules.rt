@@ -9,8 +9,9 @@ ghost use Rattle.md5_cache.specs.Entry.{HasNoZero};
 ghost use Rattle.md5_cache.specs.Parts.{KeepsRules, agree, all_agree};
 ghost use Rattle.md5_cache.specs.Record.{AreByName, HasOneMd5};
 
+use byte_class::is_nul;
 use eapi_tables::{Eapi, Key, has_key};
-use eb_bytes::{Bytes, Memory, is_nul, join_words};
+use eb_bytes::{Bytes, Memory, join_words};
 use eb_digest::Digest;
 use std::alloc::Global;
 

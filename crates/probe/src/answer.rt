@@ -1,5 +1,6 @@
 use crate::fault::Fault;
-use eb_bytes::{Mark, Memory};
+use eb_bytes::Memory;
+use shell_marks::Mark;
 use std::alloc::Global;
 
 /// How an answer writes texts.

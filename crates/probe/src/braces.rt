@@ -1,7 +1,8 @@
 use crate::answer::Answer;
 use crate::fault::Fault;
 use bash_braces::BraceErr;
-use eb_bytes::{Bytes, Memory, is_name_byte, is_name_start};
+use byte_class::{is_name_byte, is_name_start};
+use eb_bytes::{Bytes, Memory};
 use eb_syntax::{Dollar, Piece, Plain, QPiece, Word};
 use shared::Shared;
 use sqlite_items::Items;

@@ -1,7 +1,7 @@
 use crate::fault::Fault;
 use crate::text::{counted, read_byte, read_part};
 use crate::token::parts;
-use eb_bytes::{Mark, Marked, Origin};
+use shell_marks::{Mark, Marked, Origin};
 use std::alloc::Global;
 
 /// The marks that a field stands for. They are joined by commas, `-` where there is none. `L`, `R` and `Q` with a text

@@ -1,6 +1,7 @@
 use crate::fault::Fault;
 use crate::token::cut;
-use eb_bytes::{is_name, read_signed};
+use byte_class::is_name;
+use eb_bytes::read_signed;
 use shell_vars::VarErr;
 
 /// A variable, or an element of one.

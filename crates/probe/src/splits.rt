@@ -2,7 +2,7 @@ use crate::answer::Answer;
 use crate::fault::Fault;
 use crate::marks::read_marks;
 use crate::text::read_text;
-use eb_bytes::Marked;
+use shell_marks::Marked;
 
 /// `split IFS MARKS`: the fields as lists of marks, `.` for a field without marks; `-` where there is no field.
 pub fn split(fields: &[&[u8]], answer: &mut Answer) -> Result<(), Fault> {

@@ -1,15 +1,11 @@
 -- Steps (own): how they are spent, and what costs how many. A division drops the rest.
 use Rattle.std.specs.Prelude.{◌≡◌, Result, ℕ, ◌+◌, ◌-◌, ◌/◌, List, [], ◌∷◌, length, nat_le, sum_by, if◌then◌else◌}
-use Rattle.eb_bytes.specs.Spending.{Spending}
+pub use Rattle.eb_bytes.specs.Spending.{Spending, left}
 use Rattle.eb_bytes.specs.Text.{Text}
 use Rattle.shell_state.specs.State.{State}
 use Rattle.shell_state.specs.Outcome.{Doing, Ended, Faulted, Tells}
 use Rattle.shell_state.specs.declared.fault.Fault.TheVariants as fault
 use Rattle.shell_state.specs.declared.stop.Stop.{Stop}
-
--- how many steps of a budget are left
-abbrev pub left : Spending → ℕ
-left b = b.limit - b.used
 
 -- spends so many steps; where fewer are left, all of them are spent and the run ends
 unfoldable pub spend : ℕ → Doing (Unit {0})

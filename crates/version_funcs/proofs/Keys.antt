@@ -13,7 +13,7 @@ use Rattle.std.proofs.lemmas.List.{reverse-append}
 use Rattle.eb_bytes.specs.Text.{Text}
 use Rattle.version_funcs.specs.declared.kind.SuffixKind.{SuffixKind}
 use Rattle.version_funcs.specs.declared.kind.SuffixKind.TheVariants.{Alpha, Beta, Pre, Candidate, Patch}
-use Rattle.eb_bytes.specs.Class.{is_digit, is_zero}
+use Rattle.byte_class.specs.Class.{is_digit, is_zero}
 use Rattle.version_funcs.specs.Byte.{after_while}
 use Rattle.version_funcs.specs.Version.{Suffix, Version, IsWellFormed, is_number, kind_rank}
 use Rattle.version_funcs.specs.Number.{number, number_order}

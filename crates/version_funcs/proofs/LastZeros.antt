@@ -3,7 +3,7 @@ use Rattle.std.proofs.Common.{◌≡◌, ℕ, ◌-◌, ◌<◌, ◌≤◌, false
 use Rattle.std.proofs.Math.Seq.{drop-cons}
 use Rattle.std.proofs.lemmas.List.{drop_all, reverse-append, reverse-reverse, take-append-drop}
 use Rattle.eb_bytes.specs.Text.{Text}
-use Rattle.eb_bytes.specs.Class.{is_zero}
+use Rattle.byte_class.specs.Class.{is_zero}
 use Rattle.version_funcs.specs.Byte.{after_while}
 use Rattle.version_funcs.specs.Order.{without_last_zeros}
 use Rattle.version_funcs.proofs.Runs.{after_while-goes_on, after_while-stops}

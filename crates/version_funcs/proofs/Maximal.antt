@@ -4,7 +4,7 @@ use Rattle.std.specs.List.{list_all}
 use Rattle.std.proofs.lemmas.Bool.{and_from, and_parts, false_from_ne_true}
 use Rattle.eb_bytes.specs.Text.{Text, has_bytes}
 use Rattle.version_funcs.specs.Maximal.{are_maximal, is_apart, is_component}
-use Rattle.eb_bytes.specs.Class.{is_digit, is_letter}
+use Rattle.byte_class.specs.Class.{is_digit, is_letter}
 use Rattle.version_funcs.specs.Byte.{is_separator}
 use Rattle.version_funcs.specs.Pieces.{Piece, are_alike, led_by, pieces}
 use Rattle.version_funcs.proofs.Runs.{list_all-take_while}

@@ -10,7 +10,7 @@ use Rattle.std.specs.Cmp.Lexicographic.{slice_cmp}
 use Rattle.std.proofs.lemmas.Bool.{and_parts, cases_order, eqb-false, eqb-true, leb-true}
 use Rattle.std.proofs.lemmas.Int.Digits.{number_after_ge, number_more}
 use Rattle.std.proofs.lemmas.List.{get_or-map, length-map}
-use Rattle.eb_bytes.specs.Class.{is_digit, is_zero}
+use Rattle.byte_class.specs.Class.{is_digit, is_zero}
 use Rattle.eb_bytes.specs.Text.{Text}
 use Rattle.version_funcs.specs.Byte.{after_while}
 use Rattle.version_funcs.specs.Compared.{digits_order, stripped_order}

@@ -7,7 +7,7 @@ use Rattle.std.specs.Option.{option_cmp}
 use Rattle.std.specs.Ordering.{nat_cmp, ordering_then, ordering_reverse}
 use Rattle.std.specs.Cmp.Lexicographic.{slice_cmp}
 use Rattle.eb_bytes.specs.Text.{Text, has_bytes}
-use Rattle.eb_bytes.specs.Class.{is_digit}
+use Rattle.byte_class.specs.Class.{is_digit}
 use Rattle.version_funcs.specs.Version.{Suffix, Version, IsWellFormed, is_number, is_none_or, is_suffix, kind_rank, spelled_suffix, spelled_revision}
 use Rattle.version_funcs.specs.Walk.{after_marks, suffix_of, first_text, later_text, letter_of, after_components, suffixes_text, revision_text}
 use Rattle.version_funcs.specs.Number.{number_order}

@@ -9,7 +9,7 @@ use Rattle.std.proofs.lemmas.Slice.Eq.{bytes_eq-Decides}
 use Rattle.eb_bytes.specs.Text.{Text}
 use Rattle.version_funcs.specs.declared.kind.SuffixKind.{SuffixKind}
 use Rattle.version_funcs.specs.declared.kind.SuffixKind.TheVariants.{Alpha, Beta, Pre, Candidate, Patch}
-use Rattle.eb_bytes.specs.Class.{is_digit, is_lower}
+use Rattle.byte_class.specs.Class.{is_digit, is_lower}
 use Rattle.version_funcs.specs.Byte.{after_while, is_digit_or_dot, is_no}
 use Rattle.version_funcs.specs.Version.{Suffix, Version, IsWellFormed, IsVersionText, is_number, is_none_or, is_suffix, kind_name, marked, spelled_letter, spelled_suffix, spelled_revision, spelling}
 use Rattle.version_funcs.specs.Walk.{letter_of, after_letter, after_components, first_text, later_text, suffixes_text, revision_text, after_marks, begins_piece, is_revision, kind_named, with_number, suffix_of, is_suffix_text, is_version_text}

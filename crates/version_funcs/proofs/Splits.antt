@@ -4,7 +4,7 @@ use Rattle.std.specs.List.{take_while}
 use Rattle.std.proofs.lemmas.Bool.{and_parts, eqb-true, leb-true, or_cases}
 use Rattle.std.proofs.lemmas.List.{nil_from_length}
 use Rattle.eb_bytes.specs.Text.{Text}
-use Rattle.eb_bytes.specs.Class.{is_digit, is_letter}
+use Rattle.byte_class.specs.Class.{is_digit, is_letter}
 use Rattle.version_funcs.specs.Byte.{is_separator, after_while}
 use Rattle.version_funcs.specs.Pieces.{Piece, Pieces, are_alike, goes_on, joined, joined_rest, led_by, pieces}
 use Rattle.version_funcs.specs.Seen.{after_component, fellows, leading_component}

@@ -1,7 +1,7 @@
 -- Classes of bytes, and runs of them.
 use Rattle.std.specs.Prelude.{ℕ, Bool, ◌==◌, ◌||◌, not, drop}
 use Rattle.std.specs.List.{prefix_len}
-use Rattle.eb_bytes.specs.Class.{is_digit, is_letter, is_lower, is_zero}
+use Rattle.byte_class.specs.Class.{is_digit, is_letter, is_lower, is_zero}
 use Rattle.eb_bytes.specs.Text.{Text}
 use Rattle.version_funcs.specs.declared.class.Class.{Class}
 use Rattle.version_funcs.specs.declared.class.Class.TheVariants as class

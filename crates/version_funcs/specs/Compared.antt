@@ -7,7 +7,7 @@ use Rattle.std.specs.declared.cmp.Ordering.TheVariants.{Less, Equal}
 use Rattle.eb_bytes.specs.Text.{Text}
 use Rattle.version_funcs.specs.Version.{Suffix, kind_rank}
 use Rattle.version_funcs.specs.Order.{begins_with_zero, longer_order, without_last_zeros}
-use Rattle.eb_bytes.specs.Class.{is_zero}
+use Rattle.byte_class.specs.Class.{is_zero}
 use Rattle.version_funcs.specs.Byte.{after_while}
 use Rattle.version_funcs.specs.Walk.{suffix_of}
 

@@ -2,7 +2,7 @@
 use Rattle.std.specs.Prelude.{Bool, true, ◌&&◌, ◌||◌, not, List, [], ◌∷◌, ◌++◌}
 use Rattle.std.specs.List.{list_all}
 use Rattle.eb_bytes.specs.Text.{Text, has_bytes}
-use Rattle.eb_bytes.specs.Class.{is_digit, is_letter}
+use Rattle.byte_class.specs.Class.{is_digit, is_letter}
 use Rattle.version_funcs.specs.Byte.{is_separator}
 use Rattle.version_funcs.specs.Pieces.{Piece}
 

@@ -10,7 +10,7 @@ use Rattle.version_funcs.specs.declared.kind.SuffixKind.{SuffixKind}
 use Rattle.version_funcs.specs.declared.kind.SuffixKind.TheVariants.{Patch}
 use Rattle.version_funcs.specs.Number.{number_order}
 use Rattle.version_funcs.specs.Version.{Suffix, Version, kind_rank}
-use Rattle.eb_bytes.specs.Class.{is_zero}
+use Rattle.byte_class.specs.Class.{is_zero}
 use Rattle.version_funcs.specs.Byte.{after_while}
 
 abbrev pub begins_with_zero : Text → Bool

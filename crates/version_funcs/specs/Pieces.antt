@@ -1,7 +1,7 @@
 -- A text as components and separators (Package Manager Specification, version manipulation functions).
 use Rattle.std.specs.Prelude.{ℕ, Bool, false, ◌&&◌, ◌||◌, List, [], ◌∷◌, ◌++◌, if◌then◌else◌}
 use Rattle.eb_bytes.specs.Text.{Text}
-use Rattle.eb_bytes.specs.Class.{is_digit, is_letter}
+use Rattle.byte_class.specs.Class.{is_digit, is_letter}
 use Rattle.version_funcs.specs.Byte.{is_separator}
 
 -- ---- bytes

@@ -4,7 +4,7 @@ use Rattle.std.specs.Prelude.{ℕ, zero, suc, ◌+◌, ◌-◌, Bool, true, ◌=
 use Rattle.std.specs.List.{list_all, take_while}
 use Rattle.std.specs.Option.{option_map}
 use Rattle.eb_bytes.specs.Text.{Text, has_bytes}
-use Rattle.eb_bytes.specs.Class.{is_digit}
+use Rattle.byte_class.specs.Class.{is_digit}
 use Rattle.version_funcs.specs.Byte.{after_while}
 use Rattle.version_funcs.specs.Number.{number}
 use Rattle.version_funcs.specs.Pieces.{Piece, Pieces, pieces, joined, joined_rest}

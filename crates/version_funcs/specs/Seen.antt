@@ -6,7 +6,7 @@ use Rattle.eb_bytes.specs.Text.{Text}
 use Rattle.version_funcs.specs.declared.pieces.Part.{Part}
 use Rattle.version_funcs.specs.declared.range.Places.{Places}
 use Rattle.version_funcs.specs.declared.replace.Swap.{Swap}
-use Rattle.eb_bytes.specs.Class.{is_digit, is_letter}
+use Rattle.byte_class.specs.Class.{is_digit, is_letter}
 use Rattle.version_funcs.specs.Byte.{after_while}
 use Rattle.version_funcs.specs.Pieces.{Piece}
 use Rattle.version_funcs.specs.Range.{Range, Replacement}

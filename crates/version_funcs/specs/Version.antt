@@ -4,7 +4,7 @@ use Rattle.std.specs.List.{list_all}
 use Rattle.eb_bytes.specs.Text.{Text, has_bytes}
 use Rattle.version_funcs.specs.declared.kind.SuffixKind.{SuffixKind}
 use Rattle.version_funcs.specs.declared.kind.SuffixKind.TheVariants.{Alpha, Beta, Pre, Candidate, Patch}
-use Rattle.eb_bytes.specs.Class.{is_digit, is_lower}
+use Rattle.byte_class.specs.Class.{is_digit, is_lower}
 
 -- ---- numbers
 

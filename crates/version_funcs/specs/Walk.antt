@@ -5,7 +5,7 @@ use Rattle.std.specs.Str.{bytes_eq}
 use Rattle.eb_bytes.specs.Text.{Text}
 use Rattle.version_funcs.specs.declared.kind.SuffixKind.{SuffixKind}
 use Rattle.version_funcs.specs.declared.kind.SuffixKind.TheVariants.{Alpha, Beta, Pre, Candidate, Patch}
-use Rattle.eb_bytes.specs.Class.{is_digit, is_lower}
+use Rattle.byte_class.specs.Class.{is_digit, is_lower}
 use Rattle.version_funcs.specs.Byte.{is_digit_or_dot, is_no, after_while}
 use Rattle.version_funcs.specs.Version.{Suffix, is_number}
 

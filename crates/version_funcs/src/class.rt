@@ -3,7 +3,7 @@ ghost use Rattle.std.specs.List.{list_all, prefix_len, take_while};
 ghost use Rattle.version_funcs.specs.Byte.{after_while, in_class};
 ghost use Rattle.version_funcs.specs.Walk.{after_marks};
 
-use eb_bytes::{is_digit, is_letter, is_letter_or_digit, is_lower};
+use byte_class::{is_digit, is_letter, is_letter_or_digit, is_lower};
 
 // The bytes that a part of a text is made of.
 #[derive(Clone, Copy)]

@@ -1,6 +1,6 @@
 ghost use Rattle.std.specs.Prelude.{◌≡◌, ◌≤◌, ◌^◌, true, min};
 ghost use Rattle.std.specs.List.{list_all};
-ghost use Rattle.eb_bytes.specs.Class.{is_digit, is_zero};
+ghost use Rattle.byte_class.specs.Class.{is_digit, is_zero};
 ghost use Rattle.version_funcs.specs.Byte.{after_while};
 ghost use Rattle.version_funcs.specs.Compared.{digits_order};
 ghost use Rattle.version_funcs.specs.Number.{number, number_order};

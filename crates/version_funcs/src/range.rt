@@ -1,7 +1,7 @@
 ghost use Rattle.std.specs.Prelude.{◌≡◌, ◌+◌, ◌≤◌, ◌^◌, true};
 ghost use Rattle.std.specs.List.{list_all};
 ghost use Rattle.std.specs.Option.{option_map};
-ghost use Rattle.eb_bytes.specs.Class.{is_digit};
+ghost use Rattle.byte_class.specs.Class.{is_digit};
 ghost use Rattle.version_funcs.specs.Number.{number};
 ghost use Rattle.version_funcs.specs.Range.{is_in, open_range, range_of};
 ghost use Rattle.version_funcs.specs.Seen.{clamped, seen_range};

@@ -12,7 +12,7 @@ use crate::reader::nesting::deeper;
 use crate::reader::variables::variable_value;
 use crate::reader::{ExpressionRead, value};
 use crate::rule::Rule;
-use eb_bytes::is_digit;
+use byte_class::is_digit;
 use std::alloc::Global;
 
 // A text in parentheses, a variable or a constant.

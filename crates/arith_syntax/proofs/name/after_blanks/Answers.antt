@@ -4,7 +4,7 @@ use Rattle.std.proofs.lemmas.Iterator.{YieldsList-from_slice}
 use Rattle.std.proofs.lemmas.Iterator.Consumers.{count_from_yields_List}
 use Rattle.std.proofs.lemmas.Iterator.Search.{YieldsList-from_take_while}
 use Rattle.std.proofs.lemmas.List.Folds.{length-prefix_len}
-use Rattle.eb_bytes.specs.Class.{is_space}
+use Rattle.byte_class.specs.Class.{is_space}
 use Rattle.arith_syntax.specs.Names.{after_blanks}
 use Rattle.arith_syntax.proofs.name.after_blanks.Goals as goal
 

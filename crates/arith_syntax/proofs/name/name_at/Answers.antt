@@ -2,7 +2,7 @@ use Rattle.std.proofs.Common.{◌≡◌, ℕ, true, false, take, drop, Some, Non
 use Rattle.std.proofs.lemmas.List.Sums.{prefix_len-le-length}
 use Rattle.eb_bytes.specs.Text.{Text}
 use Rattle.arith_syntax.specs.Names.{begins_name, name_at, name_len}
-use Rattle.eb_bytes.specs.Class.{is_name_byte}
+use Rattle.byte_class.specs.Class.{is_name_byte}
 use Rattle.arith_syntax.proofs.name.name_at.Goals as goal
 
 pub split_at-requires : goal.split_at-requires

@@ -3,7 +3,7 @@ use Rattle.std.proofs.lemmas.Result.{err_from_is_err_and}
 use Rattle.arith_syntax.proofs.Grown.{grows_begun, grows_ended, grows_next, grows_refused, grows_stopped}
 use Rattle.arith_syntax.proofs.Rules.{as_value, at_digit, base_refused, binary_joined, binary_none, colon_refused, condition_alone, condition_chosen, condition_refused, deeper_none, deeper_put, deeper_refused, element_put, first_refused, last_refused, left_refused, value_put, post_put, middle_refused, named_put, operand_signed, operand_incremented, power_alone, power_raised, power_refused, reads_as, refused_as, right_refused, side_last, side_other, signed_put, pre_put, subscript_empty, target_alone, target_assigned, target_refused, whole_is}
 use Rattle.arith_syntax.specs.Names.{after_blanks, begins_name}
-use Rattle.eb_bytes.specs.Class.{is_digit}
+use Rattle.byte_class.specs.Class.{is_digit}
 use Rattle.arith_syntax.specs.Putting.{inner, past_byte, side}
 use Rattle.arith_syntax.specs.Reading.{begins, signed}
 use Rattle.arith_syntax.specs.Symbols.{first_of, signs}

@@ -1,7 +1,7 @@
 use Rattle.std.proofs.Common.{rules, tests}
 use Rattle.std.proofs.lemmas.Iterator.Search.{find_from_yields_List}
 use Rattle.std.proofs.lemmas.Iterator.Splits.{YieldsList-from_slice_split}
-use Rattle.eb_bytes.specs.Class.{is_newline}
+use Rattle.byte_class.specs.Class.{is_newline}
 use Rattle.eapi_tables.specs.EapiLine.{has_content}
 use Rattle.eapi_tables.proofs.line.opening_line.Goals as goal
 

@@ -1,7 +1,7 @@
 use Rattle.std.proofs.Common.{◌∙◌, rules, tests}
 use Rattle.std.proofs.lemmas.Iterator.Consumers.{YieldsList-at, YieldsList-from_filter, YieldsList-end}
 use Rattle.std.proofs.lemmas.Iterator.Splits.{YieldsList-from_slice_split}
-use Rattle.eb_bytes.specs.Class.{is_space}
+use Rattle.byte_class.specs.Class.{is_space}
 use Rattle.eb_bytes.specs.Text.{has_bytes}
 use Rattle.eb_bytes.proofs.words.words_of.Goals as goal
 

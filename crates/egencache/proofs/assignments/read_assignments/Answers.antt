@@ -2,7 +2,7 @@ use Rattle.std.proofs.Common.{map, sym, ◌∙◌, arith, rules, tests}
 use Rattle.std.proofs.lemmas.List.{length_push, map_push}
 use Rattle.std.proofs.lemmas.Iterator.Consumers.{YieldsList-at, YieldsList-end, YieldsList-turn}
 use Rattle.std.proofs.lemmas.Iterator.Splits.{YieldsList-from_slice_split}
-use Rattle.eb_bytes.specs.Class.{is_newline}
+use Rattle.byte_class.specs.Class.{is_newline}
 use Rattle.eb_bytes.specs.Text.{lines}
 use Rattle.egencache.specs.Seen.{assigned}
 use Rattle.egencache.proofs.LinesRead.{next_line, read-all, read-assigns, read-nothing, read-other}

@@ -1,6 +1,6 @@
 use Rattle.std.proofs.Common.{◌∙◌, ap}
 use Rattle.std.specs.List.{list_all}
-use Rattle.eb_bytes.specs.Class.{is_digit}
+use Rattle.byte_class.specs.Class.{is_digit}
 use Rattle.version_funcs.proofs.Runs.{list_all-take_while}
 use Rattle.version_funcs.proofs.range.read_range.Goals as goal
 

@@ -1,6 +1,6 @@
 ghost use Rattle.std.specs.Prelude.{◌≡◌};
 ghost use Rattle.std.specs.List.{list_all};
-ghost use Rattle.eb_bytes.specs.Class as class;
+ghost use Rattle.byte_class.specs.Class as class;
 
 /// Whether this is the byte 0, which no text of a shell holds.
 pub fn is_nul(byte: u8) -> bool

@@ -1,6 +1,6 @@
 use Rattle.std.proofs.Common.{◌≡◌, ◌++◌, map, take, ◌+◌, ◌-◌, ◌≤◌, length, vec_len, vec_capacity}
-use Rattle.eb_bytes.specs.Marks.{marked}
-use Rattle.eb_bytes.proofs.marked.Marked.extend.Given as goal
+use Rattle.shell_marks.specs.Marks.{marked}
+use Rattle.shell_marks.proofs.marked.Marked.extend.Given as goal
 
 abbrev pub invariant-loop-byte : goal.invariant-loop-byte
 invariant-loop-byte l = record {

@@ -1,13 +1,13 @@
 ghost use Rattle.std.specs.Prelude.{◌≡◌, [], ◌∷◌, ◌++◌, map, IfOk, OnOk, OnErr};
-ghost use Rattle.eb_bytes.specs.Marks.{unquoted};
+ghost use Rattle.shell_marks.specs.Marks.{unquoted};
 
-use crate::bytes::{Bytes, Memory};
+use eb_bytes::{Bytes, Memory};
 use std::alloc::{AllocError, Global};
 use std::marker::Model;
 
 /// A byte of a shell word and where it came from, or what stands between such bytes. The names are the Bash Reference
 /// Manual's, "Word Splitting" and "Quote Removal": an unquoted expansion's result is split, quoted text is not.
-#[derive(Clone, Copy, Debug, PartialEq, Eq)]
+#[derive(Clone, Copy)]
 pub enum Mark {
     /// A byte of the script that is not quoted.
     Literal(u8),
@@ -22,7 +22,7 @@ pub enum Mark {
 }
 
 impl Mark {
-    ghost use Rattle.eb_bytes.specs.Marks.{byte_of};
+    ghost use Rattle.shell_marks.specs.Marks.{byte_of};
 
     /// The byte, where the mark is one.
     pub fn byte(self) -> Option<u8>
@@ -36,7 +36,7 @@ impl Mark {
 }
 
 /// Where the bytes of a shell word come from.
-#[derive(Clone, Copy, Debug, PartialEq, Eq)]
+#[derive(Clone, Copy)]
 pub enum Origin {
     /// The script, where they are not quoted.
     Literal,
@@ -47,7 +47,7 @@ pub enum Origin {
 }
 
 impl Origin {
-    ghost use Rattle.eb_bytes.specs.Marks.{marked};
+    ghost use Rattle.shell_marks.specs.Marks.{marked};
 
     /// The mark of a byte that comes from there.
     pub fn mark(self, byte: u8) -> Mark
@@ -68,14 +68,14 @@ fn bytes_of(alloc: Global, marks: &[Mark]) -> Result<Vec<u8>, AllocError>
 }
 
 /// A list of marks. Contracts see it as that list.
-#[derive(Debug, Drop)]
+#[derive(Drop)]
 pub struct Marked {
     items: Vec<Mark>,
 }
 
 impl Model for Marked {
     ghost use Rattle.std.specs.Prelude.{List};
-    ghost use Rattle.eb_bytes.specs.declared.marked.Mark.{Mark};
+    ghost use Rattle.shell_marks.specs.declared.marked.Mark.{Mark};
 
     ghost Value = { List Mark };
 
@@ -83,7 +83,7 @@ impl Model for Marked {
 }
 
 impl Marked {
-    ghost use Rattle.eb_bytes.specs.Marks.{marked};
+    ghost use Rattle.shell_marks.specs.Marks.{marked};
 
     /// No marks. Takes no memory.
     pub fn new(alloc: Global) -> Marked

@@ -2,10 +2,10 @@
 use Rattle.std.specs.Prelude.{ℕ, List, Option, Some, None}
 use Rattle.std.specs.List.{filter_map}
 use Rattle.eb_bytes.specs.Text.{Text}
-use Rattle.eb_bytes.specs.declared.marked.Mark.{Mark}
-use Rattle.eb_bytes.specs.declared.marked.Mark.TheVariants.{Literal, Result, Quoted, Empty, Break}
-use Rattle.eb_bytes.specs.declared.marked.Origin.{Origin}
-use Rattle.eb_bytes.specs.declared.marked.Origin.TheVariants as origin
+use Rattle.shell_marks.specs.declared.marked.Mark.{Mark}
+use Rattle.shell_marks.specs.declared.marked.Mark.TheVariants.{Literal, Result, Quoted, Empty, Break}
+use Rattle.shell_marks.specs.declared.marked.Origin.{Origin}
+use Rattle.shell_marks.specs.declared.marked.Origin.TheVariants as origin
 
 -- the mark of a byte that comes from there
 abbrev pub marked : Origin → ℕ → Mark

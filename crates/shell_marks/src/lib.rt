@@ -1,0 +1,7 @@
+//! The bytes of a shell word with where each came from: what expansion makes, and what splitting, patterns and quote
+//! removal go by.
+#![tactic(auto)]
+
+mod marked;
+
+pub use marked::{Mark, Marked, Origin};
