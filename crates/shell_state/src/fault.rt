@@ -17,7 +17,7 @@ pub enum Fault {
     /// An ebuild is no script: the line in which the first command that cannot be read begins.
     #[error("a syntax error in the ebuild")]
     SyntaxRefused(u32),
-    /// An ebuild opens more nestings than a script may: the line in which the outermost command begins.
+    /// An ebuild opens more nestings than a script may: the line in which the first one too many begins.
     #[error("the ebuild is nested too deeply")]
     SyntaxDeep(u32),
 
@@ -100,7 +100,7 @@ pub enum Fault {
     /// The text of `eval` is no script: the line in which the first command that cannot be read begins.
     #[error("a syntax error in the text of eval")]
     EvalRefused(u32),
-    /// The text of `eval` opens more nestings than a script may: the line in which the outermost command begins.
+    /// The text of `eval` opens more nestings than a script may: the line in which the first one too many begins.
     #[error("the text of eval is nested too deeply")]
     EvalDeep(u32),
 
@@ -117,8 +117,8 @@ pub enum Fault {
     /// begins.
     #[error("a syntax error in the eclass")]
     EclassRefused(Bytes, u32),
-    /// The eclass of this name opens more nestings than a script may: its name, and the line in which the outermost
-    /// command begins.
+    /// The eclass of this name opens more nestings than a script may: its name, and the line in which the first one too
+    /// many begins.
     #[error("the eclass is nested too deeply")]
     EclassDeep(Bytes, u32),
     /// `EXPORT_FUNCTIONS` was called outside of an eclass.
