@@ -1,0 +1,7 @@
+pub mod CommandsKept
+mod Examples
+pub mod LoopsKept
+pub mod Paid
+pub mod PartsKept
+pub mod RunsKept
+mod WordsKept
