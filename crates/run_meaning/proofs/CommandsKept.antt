@@ -81,13 +81,13 @@ module _ (most : ℕ) (again : Command → Doing End) (costs : (c : Command) (at
   joined_pays [] at le = omega arith
   joined_pays (j ∷ js) at le =
       if_pays (runs_on j.junction at) _ _ at
-        (going_pays at.left (pipe again j.pipe at) (joined again js) (pipe_pays j.pipe at le) (λ p l. joined_pays js p (omega (arith, l, le))))
-        (joined_pays js at le)
+      (going_pays at.left (pipe again j.pipe at) (joined again js) (pipe_pays j.pipe at le) (λ p l. joined_pays js p (omega (arith, l, le))))
+      (joined_pays js at le)
 
   listed_pays : (i : Item) (at : State) → at.left ≤ most → Pays at.left (listed again i at)
   listed_pays i at le =
       refused_pays (is_background i.end) _ _ at
-        (going_pays at.left (pipe again i.list.first at) (joined again i.list.others) (pipe_pays i.list.first at le) (λ p l. joined_pays i.list.others p (omega (arith, l, le))))
+      (going_pays at.left (pipe again i.list.first at) (joined again i.list.others) (pipe_pays i.list.first at le) (λ p l. joined_pays i.list.others p (omega (arith, l, le))))
 
   each_pays : (is : List Item) (at : State) → at.left ≤ most → Pays at.left (each_item again is at)
   each_pays [] at le = omega arith
@@ -263,7 +263,7 @@ module _ (Agrees : List Text → Type 0) (front : (xs ys : List Text) → Agrees
     pipe_part : (p : Pipe) → Both (pipe again p) (pipe other p)
     pipe_part p =
         refused_part Agrees front m n (list_any is_time p.marks) _ _ _
-          (refused_part Agrees front m n (has_more p.others) _ _ _ (bind _ _ _ _ (k p.first) (inverted_part Agrees front m n (is_odd (length p.marks)))))
+        (refused_part Agrees front m n (has_more p.others) _ _ _ (bind _ _ _ _ (k p.first) (inverted_part Agrees front m n (is_odd (length p.marks)))))
 
     joined_part : (js : List Joined) → Both (joined again js) (joined other js)
     joined_part [] = done Goes
@@ -303,13 +303,13 @@ module _ (Agrees : List Text → Type 0) (front : (xs ys : List Text) → Agrees
     unfolding call
     call_part plain b c name args body =
         next _ _ _ _ (back called_back _ _ (next _ _ _ _ (next _ _ _ _ (next _ _ _ _ (opens_part Agrees front m n opened.Call) (changed (entered args)))
-          (changes_part Agrees front m n _ _)) (k body))) (done Goes)
+        (changes_part Agrees front m n _ _)) (k body))) (done Goes)
 
     source_part : (plain : Plain) (b c : Begins) (i : Items) (bytes : ℕ) → Both (source plain b again i bytes) (source plain c other i bytes)
     unfolding source
     source_part plain b c i bytes =
         next _ _ _ _ (back script_back _ _ (next _ _ _ _ (next _ _ _ _ (next _ _ _ _ (spends Agrees front m n (script_cost bytes)) (opens_part Agrees front m n opened.Source))
-          (changed script_begins)) (items_part i))) (done tt)
+        (changed script_begins)) (items_part i))) (done tt)
 
     evaluated_part : (plain : Plain) (b c : Begins) (t : Text) (r : Reading) → Both (evaluated plain b again t r) (evaluated plain c other t r)
     evaluated_part plain b c t (Node i) = next _ _ _ _ (spends Agrees front m n (script_cost (length t))) (inside opened.Eval _ _ (items_part i))
@@ -328,7 +328,7 @@ module _ (Agrees : List Text → Type 0) (front : (xs ys : List Text) → Agrees
     tried_part t [] = done false
     tried_part t (w ∷ ws) =
         bind _ _ _ _ (bind _ _ _ _ (word_pattern (substitution again) (substitution other) substitution_part w) (λ ms. matches_case_part Agrees front m n t ms))
-          (λ b. either b _ _ _ _ (done true) (tried_part t ws))
+        (λ b. either b _ _ _ _ (done true) (tried_part t ws))
 
     chosen_part : (runs : Bool) (t : Text) (c : Clause) → Both (is_chosen again runs t c) (is_chosen other runs t c)
     chosen_part true t c = done true
@@ -341,9 +341,9 @@ module _ (Agrees : List Text → Type 0) (front : (xs ys : List Text) → Agrees
     clauses_part runs last t [] = status_part last
     clauses_part runs last t (c ∷ cs) =
         bind _ _ _ _ (chosen_part runs t c) (λ chosen. either chosen _ _ _ _
-          (bind _ _ _ _ (items_part (out-Clause c).items) (going_on _ _ (after_clause_part (out-Clause c).end _ _ _ _
-            (present_part _ _ (λ s. clauses_part false s t cs)) (present_part _ _ (λ s. clauses_part true s t cs)))))
-          (clauses_part false last t cs))
+        (bind _ _ _ _ (items_part (out-Clause c).items) (going_on _ _ (after_clause_part (out-Clause c).end _ _ _ _
+        (present_part _ _ (λ s. clauses_part false s t cs)) (present_part _ _ (λ s. clauses_part true s t cs)))))
+        (clauses_part false last t cs))
 
     -- ---- compound commands: m and n are the turns that may be made
 
@@ -375,7 +375,7 @@ module _ (Agrees : List Text → Type 0) (front : (xs ys : List Text) → Agrees
           inside opened.Compound _ _ (looping_part Agrees front m n _ _ (while_part Agrees front m n true 0 _ _ _ _ (items_pay m again costs test) (items_part test) (items_part body)))
       compound_part (Compound-F.ForArith a b c body) =
           inside opened.Compound _ _ (next _ _ _ _ (number_or_one_part a) (looping_part Agrees front m n _ _ (arith_turns_part Agrees front m n 0 _ _ _ _ _ _
-            (image _ _ _ (number_or_one_part b)) (items_part body) (next _ _ _ _ (number_or_one_part c) (done tt)))))
+          (image _ _ _ (number_or_one_part b)) (items_part body) (next _ _ _ _ (number_or_one_part c) (done tt)))))
       compound_part (Compound-F.For x ws body) =
           bind _ _ _ _ (words_in_part ws) (λ ts. inside opened.Compound _ _ (looping_part Agrees front m n _ _ (for_turns_part Agrees front m n x _ _ (items_part body) 0 ts)))
       compound_part (Compound-F.Select x ws body) = no _
@@ -408,8 +408,8 @@ module _ (Agrees : List Text → Type 0) (front : (xs ys : List Text) → Agrees
         hosted_later name at (Sourced i bytes after later_on) le lf l =
             let less : after.left ≤ at.left = l.0.less in
             further at after _ _ l.0
-              (later_bound (λ _ p. hosted first name p (later_on p)) after (first i bytes after) (source_part plain b c i bytes after (omega (arith, le, less)) (omega (arith, lf, less))).later
-                (λ a p d. hosted_later name p (later_on p) (omega (arith, le, less, d)) (omega (arith, lf, less, d)) (l.1 p)))
+            (later_bound (λ _ p. hosted first name p (later_on p)) after (first i bytes after) (source_part plain b c i bytes after (omega (arith, le, less)) (omega (arith, lf, less))).later
+            (λ a p d. hosted_later name p (later_on p) (omega (arith, le, less, d)) (omega (arith, lf, less, d)) (l.1 p)))
         hosted_later name at (Refused f left asked) le lf l = l
         hosted_later name at NotMine le lf l = here at
 
@@ -425,14 +425,14 @@ module _ (Agrees : List Text → Type 0) (front : (xs ys : List Text) → Agrees
             let less : after.left ≤ at.left = l.0.less in
             let runs = source_part plain b c i bytes after (omega (arith, le, less)) (omega (arith, lf, less)) in
             let whole = later_bound (λ _ p. hosted first name p (later_on p)) after (first i bytes after) runs.later
-                  (λ a p d. hosted_later name p (later_on p) (omega (arith, le, less, d)) (omega (arith, lf, less, d)) (l.1 p)) in
+            (λ a p d. hosted_later name p (later_on p) (omega (arith, le, less, d)) (omega (arith, lf, less, d)) (l.1 p)) in
             record {
               later = further at after _ _ l.0 whole;
               same = λ w.
                   let g = f (front after.host.asked whole.more (subst Agrees whole.kept w)) in
                   ap (hosted second name at) g.1
                   ∙ (bound Agrees front m n (λ _ p. hosted first name p (later_on p)) (λ _ p. hosted second name p (g.0 p)) after _ _ runs
-                      (λ a p d. hosted_part name p (later_on p) (g.0 p) (omega (arith, le, less, d)) (omega (arith, lf, less, d)) (l.1 p) (g.2 p))).same w;
+                  (λ a p d. hosted_part name p (later_on p) (g.0 p) (omega (arith, le, less, d)) (omega (arith, lf, less, d)) (l.1 p) (g.2 p))).same w;
             }
         hosted_part name at (Refused why left asked) h le lf l f = record { later = l; same = λ w. ap (hosted second name at) (f w) }
         hosted_part name at NotMine h le lf l f = record { later = here at; same = λ w. ap (hosted second name at) f }
@@ -452,7 +452,7 @@ module _ (Agrees : List Text → Type 0) (front : (xs ys : List Text) → Agrees
         by_eval_part : (alone : Bool) (name : Text) (args : List Text) → Both (by_eval plain b again alone name args) (by_eval plain c other alone name args)
         by_eval_part alone name args =
             either (is_named name (codes "eval")) _ _ _ _ (evaluated_part plain b c (joined_words args) (script (joined_words args)))
-              (by_builtin_part alone name args (builtin name args) (builtin_part Agrees front m n name args))
+            (by_builtin_part alone name args (builtin name args) (builtin_part Agrees front m n name args))
 
         by_function_part : (alone : Bool) (name : Text) (args : List Text) (body : Option Command) → Both (by_function plain b again alone name args body) (by_function plain c other alone name args body)
         by_function_part alone name args None = by_eval_part alone name args
@@ -479,21 +479,21 @@ module _ (Agrees : List Text → Type 0) (front : (xs ys : List Text) → Agrees
         unfolding simple
         simple_part s =
             bind _ _ _ _ (next _ _ _ _ (changed command_begins) (word_fields (substitution again) (substitution other) substitution_part (words_of (out-Simple s).tail)))
-              (λ ts. under_part (substitution again) (substitution other) substitution_part (redirs_before (out-Simple s).before ++ redirs_of (out-Simple s).tail) _ _
-                (performed_part (assigns_before (out-Simple s).before) ts))
+            (λ ts. under_part (substitution again) (substitution other) substitution_part (redirs_before (out-Simple s).before ++ redirs_of (out-Simple s).tail) _ _
+            (performed_part (assigns_before (out-Simple s).before) ts))
 
         declared_part : (d : Decl) → Both (declared plain again d) (declared plain other d)
         unfolding declared
         declared_part d =
             bind _ _ _ _ (next _ _ _ _ (changed command_begins) (arguments_part (substitution again) (substitution other) substitution_part (out-Decl d).arguments []))
-              (λ args. under_part (substitution again) (substitution other) substitution_part (redirs_before (out-Decl d).before ++ redirs_in (out-Decl d).arguments) _ _
-                (prefixed_part (substitution again) (substitution other) substitution_part (assigns_before (out-Decl d).before) _ _
-                  (bind _ _ _ _ (declares_part (out-Decl d).name args) (λ s. status_part s))))
+            (λ args. under_part (substitution again) (substitution other) substitution_part (redirs_before (out-Decl d).before ++ redirs_in (out-Decl d).arguments) _ _
+            (prefixed_part (substitution again) (substitution other) substitution_part (assigns_before (out-Decl d).before) _ _
+            (bind _ _ _ _ (declares_part (out-Decl d).name args) (λ s. status_part s))))
 
         pub command_part : (l : CommandLayer) → Both (command_at plain b again m l) (command_at plain c other n l)
         command_part (Command-F.Compound what rs) =
             refused_part Agrees front m n (is_select (out-Compound what)) _ _ _
-              (under_part (substitution again) (substitution other) substitution_part rs _ _ (compound_part (out-Compound what)))
+            (under_part (substitution again) (substitution other) substitution_part rs _ _ (compound_part (out-Compound what)))
         command_part (Command-F.FuncDef f) = next _ _ _ _ (changed (defining f.name f.body)) (status_part 0)
         command_part (Command-F.Coproc x) = no _
         command_part (Command-F.Decl d) = declared_part d

@@ -27,8 +27,8 @@ module _ (Agrees : List Text → Type 0) (front : (xs ys : List Text) → Agrees
   for_turns_part i j x f g p last [] = status_part Agrees front i j last
   for_turns_part i j x f g p last (t ∷ ts) =
       bind Agrees front i j _ _ _ _
-        (next Agrees front i j _ _ _ _ (next Agrees front i j _ _ _ _ (spends Agrees front i j 1) (changes_part Agrees front i j x (assign x None t))) p)
-        (next_turn_part i j _ _ (λ s. for_turns_part i j x f g p s ts))
+      (next Agrees front i j _ _ _ _ (next Agrees front i j _ _ _ _ (spends Agrees front i j 1) (changes_part Agrees front i j x (assign x None t))) p)
+      (next_turn_part i j _ _ (λ s. for_turns_part i j x f g p s ts))
 
   pub arith_turns_part : (i j last : ℕ) (test test' : Doing Bool) (f g : Doing End) (s s' : Doing (Unit {0}))
       → Both i j test test' → Both i j f g → Both i j s s' → Both i j (arith_turns i last test f s) (arith_turns j last test' g s')
@@ -43,9 +43,9 @@ module _ (Agrees : List Text → Type 0) (front : (xs ys : List Text) → Agrees
       let b = narrow Agrees front (suc i) (suc j) i j f g (omega arith) (omega arith) q in
       let c = narrow Agrees front (suc i) (suc j) i j s s' (omega arith) (omega arith) r in
       bind Agrees front (suc i) (suc j) _ _ _ _ p (λ comes. either Agrees front (suc i) (suc j) comes _ _ _ _
-        (paid_within Agrees front i j _ _ (bind Agrees front i j _ _ _ _ b
-          (next_turn_part i j _ _ (λ status. next Agrees front i j _ _ _ _ c (arith_turns_part i j status test test' f g s s' a b c)))))
-        (status_part Agrees front (suc i) (suc j) last))
+      (paid_within Agrees front i j _ _ (bind Agrees front i j _ _ _ _ b
+      (next_turn_part i j _ _ (λ status. next Agrees front i j _ _ _ _ c (arith_turns_part i j status test test' f g s s' a b c)))))
+      (status_part Agrees front (suc i) (suc j) last))
 
   -- ---- `while` and `until`: a `continue` in the test begins the next test, and has paid a step
 
@@ -69,24 +69,24 @@ module _ (Agrees : List Text → Type 0) (front : (xs ys : List Text) → Agrees
       → Both i j t t' → Both i j f g → Both i j (while_turns i until last t f) (while_turns j until last t' g)
   while_part zero zero until last t t' f g paid p q at le lf =
       test_bound Agrees front _ _ at _ _ (p at le lf) (paid at le)
-        (λ s l. turn_or_end_part zero zero until last _ _ (spent_within Agrees front zero zero) s (omega (arith, l, le)) (omega (arith, l, lf)))
-        (λ how s l. absurd (omega (arith, l, le)))
+      (λ s l. turn_or_end_part zero zero until last _ _ (spent_within Agrees front zero zero) s (omega (arith, l, le)) (omega (arith, l, lf)))
+      (λ how s l. absurd (omega (arith, l, le)))
   while_part zero (suc j) until last t t' f g paid p q at le lf =
       test_bound Agrees front _ _ at _ _ (p at le lf) (paid at le)
-        (λ s l. turn_or_end_part zero (suc j) until last _ _ (zero_within Agrees front (suc j) _) s (omega (arith, l, le)) (omega (arith, l, lf)))
-        (λ how s l. absurd (omega (arith, l, le)))
+      (λ s l. turn_or_end_part zero (suc j) until last _ _ (zero_within Agrees front (suc j) _) s (omega (arith, l, le)) (omega (arith, l, lf)))
+      (λ how s l. absurd (omega (arith, l, le)))
   while_part (suc i) zero until last t t' f g paid p q at le lf =
       test_bound Agrees front _ _ at _ _ (p at le lf) (paid at le)
-        (λ s l. turn_or_end_part (suc i) zero until last _ _ (within_zero Agrees front (suc i) _) s (omega (arith, l, le)) (omega (arith, l, lf)))
-        (λ how s l. absurd (omega (arith, l, lf)))
+      (λ s l. turn_or_end_part (suc i) zero until last _ _ (within_zero Agrees front (suc i) _) s (omega (arith, l, le)) (omega (arith, l, lf)))
+      (λ how s l. absurd (omega (arith, l, lf)))
   while_part (suc i) (suc j) until last t t' f g paid p q at le lf =
       let a = narrow Agrees front (suc i) (suc j) i j t t' (omega arith) (omega arith) p in
       let b = narrow Agrees front (suc i) (suc j) i j f g (omega arith) (omega arith) q in
       let fewer : PaysJumps i t = λ s l. paid s (omega (arith, l)) in
       let turn = turn_or_end_part (suc i) (suc j) until last _ _ (paid_within Agrees front i j _ _ (bind Agrees front i j _ _ _ _ b
-            (next_turn_part i j _ _ (λ status. while_part i j until status t t' f g fewer a b)))) in
+      (next_turn_part i j _ _ (λ status. while_part i j until status t t' f g fewer a b)))) in
       test_bound Agrees front _ _ at _ _ (p at le lf) (paid at le)
-        (λ s l. turn s (omega (arith, l, le)) (omega (arith, l, lf)))
-        (λ how s l. jumped _ _ _ _ how s
-          (while_part i j until last t t' f g fewer a b s (omega (arith, l, le)) (omega (arith, l, lf)))
-          (turn s (omega (arith, l, le)) (omega (arith, l, lf))))
+      (λ s l. turn s (omega (arith, l, le)) (omega (arith, l, lf)))
+      (λ how s l. jumped _ _ _ _ how s
+      (while_part i j until last t t' f g fewer a b s (omega (arith, l, le)) (omega (arith, l, lf)))
+      (turn s (omega (arith, l, le)) (omega (arith, l, lf))))

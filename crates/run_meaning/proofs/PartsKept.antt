@@ -186,7 +186,7 @@ module _ (Agrees : List Text → Type 0) (front : (xs ys : List Text) → Agrees
   has_at_part : (name e : Text) → Self (has_at name e)
   has_at_part name e =
       either (bytes_eq e (codes "@") || bytes_eq e (codes "*")) _ _ _ _ (has_elements_part name)
-        (bind _ _ _ _ (evaluates_part e) (λ at. has_element_part name (Some at)))
+      (bind _ _ _ _ (evaluates_part e) (λ at. has_element_part name (Some at)))
 
   has_argument_part : (k : ℕ) → Self (has_argument k)
   has_argument_part k = by_state _ _ (λ at. done (nat_le k (length at.args)))
@@ -194,7 +194,7 @@ module _ (Agrees : List Text → Type 0) (front : (xs ys : List Text) → Agrees
   has_special_part : (b : ℕ) → Self (has_special b)
   has_special_part b =
       either (b == 64 || b == 42) _ _ _ _ (has_argument_part 1)
-        (either (b == 35 || b == 63) _ _ _ _ (done true) (no (fault.Unsupported (36 ∷ b ∷ []))))
+      (either (b == 35 || b == 63) _ _ _ _ (done true) (no (fault.Unsupported (36 ∷ b ∷ []))))
 
   is_set_part : (t : Text) (r : Option Ref) → Self (is_set t r)
   is_set_part t None = no (fault.BadSubstitution t)
@@ -264,13 +264,13 @@ module _ (Agrees : List Text → Type 0) (front : (xs ys : List Text) → Agrees
   sets_part [] = status_part 0
   sets_part (w ∷ ws) =
       either (ends_options w) _ _ _ _ (next _ _ _ _ (changed (with_args ws)) (status_part 0))
-        (either (is_option w) _ _ _ _ (next _ _ _ _ (sets_option_part w) (sets_part ws)) (next _ _ _ _ (changed (with_args (w ∷ ws))) (status_part 0)))
+      (either (is_option w) _ _ _ _ (next _ _ _ _ (sets_option_part w) (sets_part ws)) (next _ _ _ _ (changed (with_args (w ∷ ws))) (status_part 0)))
 
   unset_letters_part : (letters : Text) (u : Unsets) → Self (unset_letters letters u)
   unset_letters_part [] u = done u
   unset_letters_part (letter ∷ letters) u =
       either (letter == 118) _ _ _ _ (unset_letters_part letters _)
-        (either (letter == 102) _ _ _ _ (unset_letters_part letters _) (no (fault.BadOption (codes "unset") (45 ∷ letter ∷ []))))
+      (either (letter == 102) _ _ _ _ (unset_letters_part letters _) (no (fault.BadOption (codes "unset") (45 ∷ letter ∷ []))))
 
   unset_function_part : (name : Text) → Self (unset_function name)
   unset_function_part name = by_state _ _ (λ at. changed (with_funcs (without name at.funcs)))
@@ -303,7 +303,7 @@ module _ (Agrees : List Text → Type 0) (front : (xs ys : List Text) → Agrees
   unset_from_part [] u = unset_by_part [] u
   unset_from_part (w ∷ ws) u =
       either (ends_options w) _ _ _ _ (unset_by_part ws u)
-        (either (is_dash_option w) _ _ _ _ (bind _ _ _ _ (unset_letters_part (drop 1 w) u) (λ v. unset_from_part ws v)) (unset_by_part (w ∷ ws) u))
+      (either (is_dash_option w) _ _ _ _ (bind _ _ _ _ (unset_letters_part (drop 1 w) u) (λ v. unset_from_part ws v)) (unset_by_part (w ∷ ws) u))
 
   lets_after_part : (last : ℤ) (ws : List Text) → Self (lets_after last ws)
   lets_after_part last [] = done last

@@ -3,17 +3,19 @@ use Rattle.std.proofs.Common.{◌≡◌, ℕ, zero, suc, ◌-◌, ◌<◌, ◌�
 use Rattle.std.specs.Prelude.{nat_le}
 use Rattle.eb_bytes.specs.Text.{Text}
 use Rattle.eb_syntax.specs.declared.tree.Command.{Command, out-Command}
+use Rattle.eb_syntax.specs.declared.tree.Items.{Items}
 use Rattle.shell_state.specs.Host.{Begins, Begun, Finished, Sourced, Refused, NotMine, Later}
 use Rattle.shell_state.specs.State.{State}
 use Rattle.shell_state.specs.Outcome.{Outcome, Ended, Faulted, Doing, ◌>>◌, left_of, asked_of}
-use Rattle.shell_state.specs.Spending.{spend, step}
+use Rattle.shell_state.specs.Spending.{script_cost, spend, step}
 use Rattle.shell_state.proofs.Kept.{Kept, Part}
 use Rattle.run_meaning.specs.Builtins.{Plain}
 use Rattle.run_meaning.specs.Ends.{End, Run}
-use Rattle.run_meaning.specs.Laws.{Agree, Alike, Always, Follows, KeepPlain, NamesAskedDetermine, RunsKeep, RunUnfolds, Scene, Steady, StepsSuffice}
-use Rattle.run_meaning.specs.Run.{command_at, run}
-use Rattle.run_meaning.proofs.CommandsKept.{command_part}
+use Rattle.run_meaning.specs.Laws.{Agree, Alike, Always, Follows, KeepPlain, NamesAskedDetermine, NamesAskedDetermineScripts, RunUnfolds, RunsKeep, Scene, ScriptsKeep, Steady, StepsSuffice, StepsSufficeForScripts}
+use Rattle.run_meaning.specs.Run.{command_at, run, whole}
+use Rattle.run_meaning.proofs.CommandsKept.{command_part, items_part}
 use Rattle.run_meaning.proofs.Paid.{Costs, has_step, paid_within, spent_within, within_zero, zero_within}
+use Rattle.run_meaning.proofs.PartsKept.{done, next, spends}
 
 always_front : (xs ys : List Text) → Always (xs ++ ys) → Always xs
 always_front xs ys h = tt
@@ -65,7 +67,7 @@ module _ (plain : Plain) (keeps : KeepPlain plain) (b : Begins) (bb : Steady b) 
   unfolding run
   one_more_costs m h x at le =
       costs_if (command_at plain b (run plain b m) m (out-Command x)) at (nat_le 1 at.left) refl
-        (λ p l. (command_part Always always_front m m (run plain b m) (run plain b m) (h.parts m) h.costs plain keeps b b bb (out-Command x) p (omega (arith, l, le)) (omega (arith, l, le))).later.less)
+      (λ p l. (command_part Always always_front m m (run plain b m) (run plain b m) (h.parts m) h.costs plain keeps b b bb (out-Command x) p (omega (arith, l, le)) (omega (arith, l, le))).later.less)
 
   alone : (m : ℕ) → ByItself m
   unfolding run
@@ -83,7 +85,13 @@ module _ (Agrees : List Text → Type 0) (front : (xs ys : List Text) → Agrees
   run_part (suc m) zero x = within_zero Agrees front (suc m) _
   run_part (suc m) (suc n) x =
       paid_within Agrees front m n _ _ (command_part Agrees front m n (run plain b m) (run plain c n) (run_part m n)
-        (alone plain keeps b (steady Agrees b c bc) m).costs plain keeps b c bc (out-Command x))
+      (alone plain keeps b (steady Agrees b c bc) m).costs plain keeps b c bc (out-Command x))
+
+  pub whole_part : (m n bytes : ℕ) (i : Items) → Part Agrees front m n (whole plain b m bytes i) (whole plain c n bytes i)
+  unfolding whole
+  whole_part m n bytes i =
+      next Agrees front m n _ _ _ _ (next Agrees front m n _ _ _ _ (spends Agrees front m n (script_cost bytes))
+        (items_part Agrees front m n (run plain b m) (run plain c n) (run_part m n) i)) (done Agrees front m n tt)
 
 -- ---- the laws
 
@@ -102,8 +110,19 @@ unfolding run
 run_unfolds plain keeps b bb zero x at le = sym ((zero_within Always always_front zero _ at le le).same tt)
 run_unfolds plain keeps b bb (suc n) x at le =
     sym ((paid_within Always always_front n (suc n) _ _
-      (command_part Always always_front n (suc n) (run plain b n) (run plain b (suc n)) (run_part Always always_front plain keeps b b bb n (suc n))
-        (alone plain keeps b bb n).costs plain keeps b b bb (out-Command x)) at le (omega (arith, le))).same tt)
+    (command_part Always always_front n (suc n) (run plain b n) (run plain b (suc n)) (run_part Always always_front plain keeps b b bb n (suc n))
+    (alone plain keeps b bb n).costs plain keeps b b bb (out-Command x)) at le (omega (arith, le))).same tt)
 
 pub runs_keep : RunsKeep
 runs_keep plain keeps b bb n x at le = (run_part Always always_front plain keeps b b bb n n x at le le).later
+
+pub names_asked_determine_scripts : NamesAskedDetermineScripts
+names_asked_determine_scripts plain keeps s u b c bc n bytes i at le w =
+    (whole_part (Agree s u) (agree_front s u) plain keeps b c bc n n bytes i at le le).same w
+
+pub steps_suffice_for_scripts : StepsSufficeForScripts
+steps_suffice_for_scripts plain keeps b bb m n bytes i at le lf =
+    sym ((whole_part Always always_front plain keeps b b bb m n bytes i at le lf).same tt)
+
+pub scripts_keep : ScriptsKeep
+scripts_keep plain keeps b bb n bytes i at le = (whole_part Always always_front plain keeps b b bb n n bytes i at le le).later

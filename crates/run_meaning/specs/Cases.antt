@@ -45,7 +45,7 @@ module _ (again : Command → Doing End) where
   clauses runs last t [] = status last
   clauses runs last t (c ∷ cs) =
       is_chosen runs t c >>= (λ chosen.
-        if chosen
-        then items again (out-Clause c).items >>= going (after_clause (out-Clause c).end
-          (with_present (λ present. clauses false present t cs)) (with_present (λ present. clauses true present t cs)))
-        else clauses false last t cs)
+      if chosen
+      then items again (out-Clause c).items >>= going (after_clause (out-Clause c).end
+      (with_present (λ present. clauses false present t cs)) (with_present (λ present. clauses true present t cs)))
+      else clauses false last t cs)

@@ -75,7 +75,7 @@ module _ (again : Command → Doing End) where
       within opened.Compound (looping (while_turns n true 0 (items again test) (items again body)))
   compound_at n (Compound-F.ForArith first test after body) =
       within opened.Compound (number_or_one first >> looping (arith_turns n 0 ((λ v. not (is_zero v)) <$> number_or_one test)
-        (items again body) (number_or_one after >> pure tt)))
+      (items again body) (number_or_one after >> pure tt)))
   compound_at n (Compound-F.For name ws body) =
       words_in ws >>= (λ ts. within opened.Compound (looping (for_turns name 0 (items again body) ts)))
   compound_at n (Compound-F.Select name ws body) = refuse (fault.Unsupported (codes "select"))

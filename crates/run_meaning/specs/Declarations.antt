@@ -102,6 +102,6 @@ module _ (plain : Plain) (again : Command → Doing End) where
   unfoldable pub declared : Decl → Doing End
   declared d =
       change command_begins >> arguments (substitution again) (out-Decl d).arguments [] >>= (λ args.
-        under (substitution again) (redirs_before (out-Decl d).before ++ redirs_in (out-Decl d).arguments)
-          (prefixed (substitution again) (assigns_before (out-Decl d).before)
-            (declares_arguments plain (out-Decl d).name args >>= status)))
+      under (substitution again) (redirs_before (out-Decl d).before ++ redirs_in (out-Decl d).arguments)
+      (prefixed (substitution again) (assigns_before (out-Decl d).before)
+      (declares_arguments plain (out-Decl d).name args >>= status)))

@@ -51,14 +51,14 @@ abbrev pub while_turns : ℕ → (until : Bool) → (last : ℕ) → (test body 
 while_turns zero until last test body = test >>= tested spent (turn_or_end until last spent)
 while_turns (suc n) until last test body =
     test >>= tested (while_turns n until last test body)
-      (turn_or_end until last (step >> (body >>= next_turn (λ status. while_turns n until status test body))))
+    (turn_or_end until last (step >> (body >>= next_turn (λ status. while_turns n until status test body))))
 
 -- `for ((`: the test, the body, and what follows each body
 abbrev pub arith_turns : ℕ → (last : ℕ) → (test : Doing Bool) → (body : Doing End) → (after : Doing (Unit {0})) → Doing End
 arith_turns zero last test body after = test >>= (λ b. if b then spent else status last)
 arith_turns (suc n) last test body after =
     test >>= (λ b.
-      if b then (step >> (body >>= next_turn (λ status. after >> arith_turns n status test body after))) else status last)
+    if b then (step >> (body >>= next_turn (λ status. after >> arith_turns n status test body after))) else status last)
 
 -- `for`: a turn for each text, which is given to the name
 abbrev pub for_turns : Text → (last : ℕ) → (body : Doing End) → List Text → Doing End

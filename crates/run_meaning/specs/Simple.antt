@@ -128,5 +128,5 @@ module _ (plain : Plain) (begins : Begins) (again : Command → Doing End) where
   unfoldable pub simple : Simple → Doing End
   simple s =
       change command_begins >> fields (substitution again) (words_of (out-Simple s).tail) >>= (λ ts.
-        under (substitution again) (redirs_before (out-Simple s).before ++ redirs_of (out-Simple s).tail)
-          (performed (assigns_before (out-Simple s).before) ts))
+      under (substitution again) (redirs_before (out-Simple s).before ++ redirs_of (out-Simple s).tail)
+      (performed (assigns_before (out-Simple s).before) ts))
