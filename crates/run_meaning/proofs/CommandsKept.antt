@@ -1,9 +1,8 @@
 -- Two runs side by side: commands, where the commands inside of them are run in two ways that keep to each other.
-use Rattle.std.proofs.Common.{◌≡◌, ℕ, zero, suc, ◌+◌, ◌≤◌, List, [], ◌∷◌, ◌++◌, Option, Some, None, Bool, true, false, not, refl, sym, ap, subst, ◌∙◌, length, map, arith}
-use Rattle.std.specs.Prelude.{if◌then◌else◌, codes, ◌==◌}
+use Rattle.std.proofs.Common.{ℕ, zero, suc, ◌≤◌, List, [], ◌∷◌, ◌++◌, Option, Some, None, Bool, true, false, not, ap, subst, ◌∙◌, length, map, arith}
+use Rattle.std.specs.Prelude.{if◌then◌else◌, codes}
 use Rattle.std.specs.List.{list_any}
 use Rattle.eb_bytes.specs.Text.{Text}
-use Rattle.bash_cond.specs.Arithmetic.{evaluates}
 use Rattle.bash_cond.specs.Operators.{asks}
 use Rattle.bash_cond.specs.declared.operator.Question.{Question}
 use Rattle.bash_cond.specs.declared.operator.Question.TheVariants.{Same, Different, Before, After, Numbers, Files}
@@ -17,21 +16,20 @@ use Rattle.eb_syntax.specs.declared.tree.AP.TheOpen.{Argument-F, Command-F, Comp
 use Rattle.eb_syntax.specs.declared.tree.Argument.{Argument, out-Argument}
 use Rattle.eb_syntax.specs.declared.tree.Assign.{Assign, out-Assign}
 use Rattle.eb_syntax.specs.declared.tree.Clause.{Clause, out-Clause}
-use Rattle.eb_syntax.specs.declared.tree.Command.{Command, out-Command}
-use Rattle.eb_syntax.specs.declared.tree.Compound.{Compound, out-Compound}
+use Rattle.eb_syntax.specs.declared.tree.Command.{Command}
+use Rattle.eb_syntax.specs.declared.tree.Compound.{out-Compound}
 use Rattle.eb_syntax.specs.declared.tree.Decl.{Decl, out-Decl}
 use Rattle.eb_syntax.specs.declared.tree.Items.{Items, out-Items}
 use Rattle.eb_syntax.specs.declared.tree.Not.{Not, out-Not}
-use Rattle.eb_syntax.specs.declared.tree.Primary.{Primary, out-Primary}
+use Rattle.eb_syntax.specs.declared.tree.Primary.{out-Primary}
 use Rattle.eb_syntax.specs.declared.tree.Redir.{Redir, out-Redir}
 use Rattle.eb_syntax.specs.declared.tree.Simple.{Simple, out-Simple}
 use Rattle.eb_syntax.specs.declared.tree.Word.{Word}
 use Rattle.shell_functions.specs.Funcs.{body_of}
-use Rattle.shell_state.specs.Faults.{variable_fault}
 use Rattle.shell_state.specs.Host.{Begins, Begun, Finished, Sourced, Refused, NotMine, Lasts, Later}
-use Rattle.shell_state.specs.Opening.{bringing_back, opens, within}
+use Rattle.shell_state.specs.Opening.{bringing_back, within}
 use Rattle.shell_state.specs.Output.{prints}
-use Rattle.shell_state.specs.Spending.{script_cost, spend, step}
+use Rattle.shell_state.specs.Spending.{script_cost}
 use Rattle.shell_state.specs.State.{State}
 use Rattle.shell_state.specs.Outcome.{Outcome, Ended, Faulted, Doing, ◌>>=◌, ◌>>◌, ◌<$>◌, and_then, pure, refuse, change, left_of, asked_of}
 use Rattle.shell_state.specs.declared.fault.Fault.{Fault}
@@ -39,24 +37,23 @@ use Rattle.shell_state.specs.declared.fault.Fault.TheVariants as fault
 use Rattle.shell_state.specs.declared.opened.Opened.{Opened}
 use Rattle.shell_state.specs.declared.opened.Opened.TheVariants as opened
 use Rattle.shell_state.proofs.Kept.{here, further, Kept, plain as alike, Part, back_part, bound, opens_part, within_part}
-use Rattle.run_meaning.specs.Assignments.{assigns, binds, changes, expanded, given, prefixed, subscript, with_prefix, without_frame}
+use Rattle.run_meaning.specs.Assignments.{assigns, binds, expanded, given, prefixed, subscript, with_prefix, without_frame}
 use Rattle.run_meaning.specs.Builtins.{Argument as Said, Assigns, Plain, builtin, declaration_named, is_named}
-use Rattle.run_meaning.specs.Cases.{after_clause, clauses, is_chosen, matches_case, tried, with_present}
+use Rattle.run_meaning.specs.Cases.{after_clause, clauses, is_chosen, tried, with_present}
 use Rattle.run_meaning.specs.Compounds.{compound_at, is_missing, is_select, is_zero, number, number_or_one, others_of, words_in}
-use Rattle.run_meaning.specs.Conditions.{all, and_truth, any, binary, compared, condition, matches_pattern, not_at, or_truth, primary_at, truth_in, unary}
-use Rattle.run_meaning.specs.Declarations.{after_options, argument_at, argument_of, arguments, declared, declares_arguments, declares_words, options_of, redirs_in, said}
-use Rattle.run_meaning.specs.Ends.{End, Goes, Breaks, Continues, Returns, going, status, succeeded, truth_status}
+use Rattle.run_meaning.specs.Conditions.{all, and_truth, any, binary, condition, not_at, or_truth, primary_at, truth_in}
+use Rattle.run_meaning.specs.Declarations.{after_options, argument_at, argument_of, arguments, declared, declares_arguments, options_of, redirs_in, said}
+use Rattle.run_meaning.specs.Ends.{End, Goes, going, status, succeeded, truth_status}
 use Rattle.run_meaning.specs.Laws.{Alike, Follows, KeepPlain}
 use Rattle.run_meaning.specs.Layers.{ArgumentLayer, CommandLayer, CompoundLayer, NotLayer, PrimaryLayer, RedirLayer}
-use Rattle.run_meaning.specs.Lists.{all_items, each_item, has_more, inverted, is_background, is_odd, is_time, items, joined, listed, pipe, runs_on, unless_refused}
-use Rattle.run_meaning.specs.Loops.{arith_turns, for_turns, looping, while_turns}
+use Rattle.run_meaning.specs.Lists.{all_items, each_item, has_more, is_background, is_odd, is_time, items, joined, listed, pipe, runs_on, unless_refused}
 use Rattle.run_meaning.specs.Parts.{assigns_before, command_begins, redirs_before, redirs_of, words_of}
-use Rattle.run_meaning.specs.Redirections.{both_written_to, by_file, by_word, here_body, read_from, redir_at, redirected_back, redirects, redirs, under}
+use Rattle.run_meaning.specs.Redirections.{both_written_to, by_file, by_word, here_body, read_from, redir_at, redirected_back, redirs, under}
 use Rattle.run_meaning.specs.Run.{command_at, defining}
-use Rattle.run_meaning.specs.Simple.{by_builtin, by_eval, by_function, by_host, by_name, by_plain, call, called_back, entered, evaluated, hosted, invoked, joined_words, last_status, names_itself, performed, script_back, script_begins, simple, source, stands_alone}
+use Rattle.run_meaning.specs.Simple.{by_builtin, by_eval, by_function, by_host, by_name, by_plain, call, called_back, entered, evaluated, hosted, invoked, joined_words, last_status, performed, script_back, script_begins, simple, source, stands_alone}
 use Rattle.run_meaning.specs.Subshells.{apart, capturing, output_of, returned, substitution, subshell, trimmed, unchanged, with_last}
 use Rattle.run_meaning.specs.Values.{GivenArray, GivenText, bound as bound_to, made}
-use Rattle.run_meaning.specs.Words.{Marks, arith_text, fields, here_text, pattern, subscript_text, text}
+use Rattle.run_meaning.specs.Words.{fields, pattern, text}
 use Rattle.run_meaning.proofs.LoopsKept.{arith_turns_part, for_turns_part, looping_part, while_part}
 use Rattle.run_meaning.proofs.Paid.{Costs, Pays, going_pays, inverted_pays}
 use Rattle.run_meaning.proofs.PartsKept.{SelfIfAny, nothing, something, bind as bind_both, builtin_part, by_state as by_state_both, changed as changed_both, changes_part, compared_part, done as done_both, either as either_both, evaluates_part, going_part, image as image_both, inverted_part, kept, matches_case_part, matches_part, next as next_both, no as no_both, prints_part, redirects_part, refused_part, spends, status_part as status_both, unary_part}

@@ -1,14 +1,12 @@
 -- Two runs side by side: loops, where the numbers of turns that may still be made differ.
-use Rattle.std.proofs.Common.{◌≡◌, ℕ, zero, suc, ◌<◌, ◌≤◌, List, [], ◌∷◌, ◌++◌, None, Bool, true, false, arith}
-use Rattle.std.specs.Prelude.{if◌then◌else◌}
+use Rattle.std.proofs.Common.{ℕ, zero, suc, ◌≤◌, List, [], ◌∷◌, ◌++◌, None, Bool, arith}
 use Rattle.eb_bytes.specs.Text.{Text}
 use Rattle.shell_vars.specs.Calls.{assign}
 use Rattle.shell_state.specs.State.{State}
-use Rattle.shell_state.specs.Outcome.{Doing, ◌>>=◌, ◌>>◌, pure, change}
-use Rattle.shell_state.specs.Spending.{step}
+use Rattle.shell_state.specs.Outcome.{Doing}
 use Rattle.shell_state.proofs.Kept.{Kept, back_part}
-use Rattle.run_meaning.specs.Ends.{End, Goes, Breaks, Continues, Returns, status, left_loop, turned}
-use Rattle.run_meaning.specs.Loops.{arith_turns, for_turns, goes_on, looping, loops_back, next_turn, one_more_loop, spent, tested, turn_or_end, while_turns}
+use Rattle.run_meaning.specs.Ends.{End, Goes, Breaks, Continues, Returns, left_loop}
+use Rattle.run_meaning.specs.Loops.{arith_turns, for_turns, goes_on, looping, loops_back, next_turn, one_more_loop, tested, turn_or_end, while_turns}
 use Rattle.run_meaning.proofs.Paid.{Within, Pays, narrow, paid_within, spent_within, test_bound, within_zero, zero_within}
 use Rattle.run_meaning.proofs.PartsKept.{bind, by_state, changed, changes_part, done, either, next, spends, status_part, turned_part}
 

@@ -1,11 +1,10 @@
 -- Two runs side by side: steps that are paid, and loops that may make so many turns.
-use Rattle.std.proofs.Common.{◌≡◌, ℕ, zero, suc, ◌+◌, ◌-◌, ◌<◌, ◌≤◌, List, ◌++◌, Bool, true, false, refl, ap, subst, ◌∙◌, arith}
-use Rattle.std.specs.Prelude.{if◌then◌else◌, nat_le}
+use Rattle.std.proofs.Common.{◌≡◌, ℕ, zero, suc, ◌-◌, ◌<◌, ◌≤◌, List, ◌++◌, Bool, true, false, refl, ap, subst, ◌∙◌, arith}
+use Rattle.std.specs.Prelude.{nat_le}
 use Rattle.eb_bytes.specs.Text.{Text}
-use Rattle.shell_state.specs.Host.{Later}
 use Rattle.shell_state.specs.State.{State}
-use Rattle.shell_state.specs.Outcome.{Outcome, Ended, Faulted, Doing, ◌>>=◌, ◌>>◌, and_then, pure, left_of, asked_of}
-use Rattle.shell_state.specs.Spending.{spend, step}
+use Rattle.shell_state.specs.Outcome.{Outcome, Ended, Faulted, Doing, ◌>>◌, and_then, left_of, asked_of}
+use Rattle.shell_state.specs.Spending.{spend}
 use Rattle.shell_state.specs.declared.fault.Fault.TheVariants as fault
 use Rattle.shell_state.proofs.Kept.{here, further, Kept, plain, Part}
 use Rattle.run_meaning.specs.Ends.{End, Goes, Breaks, Continues, Returns, Run, going}

@@ -1,17 +1,16 @@
 -- Two runs side by side: the parts that run no commands. Each is the same part twice.
-use Rattle.std.proofs.Common.{◌≡◌, ℕ, zero, suc, ℤ, pos, negsuc, ◌+◌, ◌-◌, ◌≤◌, min, List, [], ◌∷◌, ◌++◌, Option, Some, None, Bool, true, false, not, refl, length, map, arith}
+use Rattle.std.proofs.Common.{ℕ, zero, suc, ℤ, pos, negsuc, ◌-◌, min, List, [], ◌∷◌, ◌++◌, Option, Some, None, Bool, true, false, not, length, arith}
 use Rattle.std.specs.Prelude.{if◌then◌else◌, codes, is_some, Ok, Err, Result, nat_le, ◌==◌, ◌&&◌, ◌||◌, drop, take}
-use Rattle.std.specs.Ordering.{int_eq}
 use Rattle.std.specs.Str.{bytes_eq}
 use Rattle.byte_class.specs.Class.{is_name}
 use Rattle.eb_bytes.specs.Text.{Text}
 use Rattle.bash_arith.specs.Outcome as arithmetic
 use Rattle.bash_arith.specs.Value.{arithmetic as value_of}
-use Rattle.bash_cond.specs.Arithmetic.{at_end, arithmetic_fault, ends_as, evaluates, variables_of}
+use Rattle.bash_cond.specs.Arithmetic.{ends_as, evaluates, variables_of}
 use Rattle.bash_cond.specs.Numbers.{numbers_stand}
 use Rattle.bash_cond.specs.Operators.{file_operator, is_before, stand, text_test}
 use Rattle.bash_cond.specs.Verdict.{Verdict, told}
-use Rattle.bash_cond.specs.Words.{number_of, truth}
+use Rattle.bash_cond.specs.Words.{truth}
 use Rattle.bash_cond.specs.declared.operator.Question.{Question}
 use Rattle.bash_cond.specs.declared.operator.Question.TheVariants.{Same, Different, Before, After, Numbers, Files}
 use Rattle.bash_cond.specs.declared.operator.Relation.{Relation}
@@ -26,14 +25,13 @@ use Rattle.shell_functions.specs.Funcs.{without}
 use Rattle.shell_vars.specs.Calls.{element, get, unset, unset_elem}
 use Rattle.shell_vars.specs.Refused.{is_refused}
 use Rattle.shell_vars.specs.Store.{Store}
-use Rattle.shell_vars.specs.Value.{elements_of}
 use Rattle.shell_vars.specs.declared.error.VarErr.{VarErr}
 use Rattle.shell_state.specs.Faults.{variable_fault}
 use Rattle.shell_state.specs.Host.{Later}
 use Rattle.shell_state.specs.Output.{may_put, prints, put, puts}
 use Rattle.shell_state.specs.Spending.{spend, text_cost}
 use Rattle.shell_state.specs.State.{State}
-use Rattle.shell_state.specs.Outcome.{Outcome, Ended, Faulted, Doing, ◌>>=◌, ◌>>◌, ◌<$>◌, and_then, pure, refuse, change, left_of, asked_of}
+use Rattle.shell_state.specs.Outcome.{Outcome, Ended, Doing, ◌>>=◌, ◌>>◌, ◌<$>◌, pure, refuse, change, left_of, asked_of}
 use Rattle.shell_state.specs.declared.fault.Fault.{Fault}
 use Rattle.shell_state.specs.declared.fault.Fault.TheVariants as fault
 use Rattle.shell_state.specs.declared.io.Io.{Io}

@@ -1,14 +1,14 @@
 -- Two whole runs side by side, and the laws that follow.
-use Rattle.std.proofs.Common.{◌≡◌, ℕ, zero, suc, ◌-◌, ◌<◌, ◌≤◌, List, [], ◌∷◌, ◌++◌, Bool, true, false, refl, sym, arith}
+use Rattle.std.proofs.Common.{◌≡◌, ℕ, zero, suc, ◌-◌, ◌≤◌, List, [], ◌∷◌, ◌++◌, Bool, true, false, refl, sym, arith}
 use Rattle.std.specs.Prelude.{nat_le}
 use Rattle.eb_bytes.specs.Text.{Text}
 use Rattle.eb_syntax.specs.declared.tree.Command.{Command, out-Command}
 use Rattle.eb_syntax.specs.declared.tree.Items.{Items}
-use Rattle.shell_state.specs.Host.{Begins, Begun, Finished, Sourced, Refused, NotMine, Later}
+use Rattle.shell_state.specs.Host.{Begins, Begun, Finished, Sourced, Refused, NotMine}
 use Rattle.shell_state.specs.State.{State}
-use Rattle.shell_state.specs.Outcome.{Outcome, Ended, Faulted, Doing, ◌>>◌, left_of, asked_of}
-use Rattle.shell_state.specs.Spending.{script_cost, spend, step}
-use Rattle.shell_state.proofs.Kept.{Kept, Part}
+use Rattle.shell_state.specs.Outcome.{Ended, Faulted, Doing, ◌>>◌, left_of}
+use Rattle.shell_state.specs.Spending.{script_cost, spend}
+use Rattle.shell_state.proofs.Kept.{Part}
 use Rattle.run_meaning.specs.Builtins.{Plain}
 use Rattle.run_meaning.specs.Ends.{End, Run}
 use Rattle.run_meaning.specs.Laws.{Agree, Alike, Always, Follows, KeepPlain, NamesAskedDetermine, NamesAskedDetermineScripts, RunUnfolds, RunsKeep, Scene, ScriptsKeep, Steady, StepsSuffice, StepsSufficeForScripts}
@@ -91,7 +91,7 @@ module _ (Agrees : List Text → Type 0) (front : (xs ys : List Text) → Agrees
   unfolding whole
   whole_part m n bytes i =
       next Agrees front m n _ _ _ _ (next Agrees front m n _ _ _ _ (spends Agrees front m n (script_cost bytes))
-        (items_part Agrees front m n (run plain b m) (run plain c n) (run_part m n) i)) (done Agrees front m n tt)
+      (items_part Agrees front m n (run plain b m) (run plain c n) (run_part m n) i)) (done Agrees front m n tt)
 
 -- ---- the laws
 

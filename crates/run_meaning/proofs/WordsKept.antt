@@ -1,10 +1,10 @@
 -- A stand-in for what is proved of the expansion of words, as long as its definitions are one.
-use Rattle.std.proofs.Common.{◌≡◌, ℕ, ◌≤◌, List, [], ◌∷◌, ◌++◌}
+use Rattle.std.proofs.Common.{ℕ, List, [], ◌++◌}
 use Rattle.eb_bytes.specs.Text.{Text}
 use Rattle.eb_syntax.specs.Tree.{ArithText, HereText, Sub}
 use Rattle.eb_syntax.specs.declared.tree.Items.{Items}
 use Rattle.eb_syntax.specs.declared.tree.Word.{Word}
-use Rattle.shell_state.specs.Outcome.{Doing, pure}
+use Rattle.shell_state.specs.Outcome.{Doing}
 use Rattle.shell_state.proofs.Kept.{Part, pure_part}
 use Rattle.run_meaning.specs.Words.{arith_text, assigned, elements, fields, here_text, pattern, subscript_text, text}
 

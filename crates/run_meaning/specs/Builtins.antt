@@ -1,6 +1,6 @@
 -- Builtins that act on the run ("Bourne Shell Builtins", "Bash Builtin Commands"), and what is taken as given of the
 -- others. A number that is a word has decimal digits with a `-` or no sign, and 64 bits hold it.
-use Rattle.std.specs.Prelude.{ℕ, zero, suc, ℤ, pos, negsuc, ◌-◌, ◌%◌, min, Bool, true, false, ◌&&◌, ◌||◌, not, ◌==◌, List, [], ◌∷◌, codes, length, take, drop, nat_le, is_some, Option, Some, None, if◌then◌else◌}
+use Rattle.std.specs.Prelude.{ℕ, suc, ℤ, pos, negsuc, ◌-◌, ◌%◌, min, Bool, true, false, ◌&&◌, ◌||◌, not, ◌==◌, List, [], ◌∷◌, codes, length, take, drop, nat_le, is_some, Option, Some, None, if◌then◌else◌}
 use Rattle.std.specs.List.{after_first, before_first, list_any}
 use Rattle.std.specs.Ordering.{int_eq}
 use Rattle.std.specs.Str.{bytes_eq}
@@ -18,7 +18,7 @@ use Rattle.shell_state.specs.State.{State}
 use Rattle.shell_state.specs.Outcome.{Doing, ◌>>=◌, ◌>>◌, pure, refuse, change}
 use Rattle.shell_state.specs.declared.fault.Fault.TheVariants as fault
 use Rattle.run_meaning.specs.Assignments.{changes}
-use Rattle.run_meaning.specs.Ends.{End, Goes, Breaks, Continues, Returns, status, truth_status}
+use Rattle.run_meaning.specs.Ends.{End, Breaks, Continues, Returns, status, truth_status}
 use Rattle.run_meaning.specs.Values.{Assignment}
 
 -- ---- the builtins that act on no run

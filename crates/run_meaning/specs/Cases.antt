@@ -6,7 +6,6 @@ use Rattle.eb_syntax.specs.declared.parts.ClauseEnd.TheVariants as end
 use Rattle.eb_syntax.specs.declared.tree.Clause.{Clause, out-Clause}
 use Rattle.eb_syntax.specs.declared.tree.Command.{Command}
 use Rattle.eb_syntax.specs.declared.tree.Word.{Word}
-use Rattle.shell_state.specs.State.{State}
 use Rattle.shell_state.specs.Outcome.{Doing, ◌>>=◌, pure}
 use Rattle.run_meaning.specs.Conditions.{matches_pattern}
 use Rattle.run_meaning.specs.Ends.{End, Goes, status, going}

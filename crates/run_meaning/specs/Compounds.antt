@@ -5,12 +5,11 @@ use Rattle.std.specs.Ordering.{int_eq}
 use Rattle.eb_bytes.specs.Text.{Text, is_space}
 use Rattle.bash_cond.specs.Arithmetic.{evaluates}
 use Rattle.eb_syntax.specs.Tree.{ArithText, Elif}
-use Rattle.eb_syntax.specs.declared.tree.AP.{AP, out-AP}
+use Rattle.eb_syntax.specs.declared.tree.AP.{out-AP}
 use Rattle.eb_syntax.specs.declared.tree.AP.TheOpen.{AP-F, Compound-F}
 use Rattle.eb_syntax.specs.declared.tree.Command.{Command}
 use Rattle.eb_syntax.specs.declared.tree.Items.{Items}
 use Rattle.eb_syntax.specs.declared.tree.Word.{Word}
-use Rattle.shell_state.specs.State.{State}
 use Rattle.shell_state.specs.Outcome.{Doing, ◌>>=◌, ◌>>◌, ◌<$>◌, pure, refuse}
 use Rattle.shell_state.specs.Opening.{within}
 use Rattle.shell_state.specs.declared.fault.Fault.TheVariants as fault

@@ -1,5 +1,5 @@
 -- Conditions ("Conditional Constructs", `[[ .. ]]`, and "Bash Conditional Expressions").
-use Rattle.std.specs.Prelude.{ℕ, zero, suc, ℤ, ◌-◌, ◌/◌, Bool, true, false, not, ◌==◌, ◌||◌, List, [], ◌∷◌, codes, length, take, nat_le, is_some, Option, Some, None, Result, Ok, Err, if◌then◌else◌}
+use Rattle.std.specs.Prelude.{ℕ, zero, suc, ℤ, ◌-◌, Bool, true, false, not, ◌==◌, ◌||◌, List, [], ◌∷◌, codes, length, take, nat_le, is_some, Option, Some, None, Result, Ok, Err, if◌then◌else◌}
 use Rattle.std.specs.FinMap as map
 use Rattle.std.specs.Str.{bytes_eq}
 use Rattle.std.specs.Str.Parse.{digits_value}
@@ -16,19 +16,17 @@ use Rattle.bash_patterns.specs.Matching.{matches}
 use Rattle.bash_patterns.specs.Reading.{pattern_of}
 use Rattle.eb_grammar.specs.Grammar.{whole_ref}
 use Rattle.eb_syntax.specs.Tree.{And, Or, Ref}
-use Rattle.eb_syntax.specs.declared.parts.BinOp.{BinOp}
 use Rattle.eb_syntax.specs.declared.parts.RefOf.TheVariants as ref
 use Rattle.eb_syntax.specs.declared.tree.AP.TheOpen.{Not-F, Primary-F}
 use Rattle.eb_syntax.specs.declared.tree.Items.{Items}
 use Rattle.eb_syntax.specs.declared.tree.Not.{Not, out-Not}
-use Rattle.eb_syntax.specs.declared.tree.Primary.{Primary, out-Primary}
+use Rattle.eb_syntax.specs.declared.tree.Primary.{out-Primary}
 use Rattle.eb_syntax.specs.declared.tree.Word.{Word}
 use Rattle.shell_vars.specs.Calls.{element, get}
 use Rattle.shell_vars.specs.Refused.{is_refused}
 use Rattle.shell_vars.specs.Value.{elements_of}
 use Rattle.shell_vars.specs.declared.error.VarErr.{VarErr}
 use Rattle.shell_state.specs.Faults.{variable_fault}
-use Rattle.shell_state.specs.State.{State}
 use Rattle.shell_state.specs.Outcome.{Doing, ◌>>=◌, ◌>>◌, ◌<$>◌, pure, refuse}
 use Rattle.shell_state.specs.Spending.{spend}
 use Rattle.shell_state.specs.declared.fault.Fault.TheVariants as fault

@@ -6,7 +6,7 @@ use Rattle.eb_syntax.specs.declared.tree.Command.{Command, out-Command}
 use Rattle.eb_syntax.specs.declared.tree.Items.{Items}
 use Rattle.eb_syntax.specs.declared.tree.Redir.{Redir}
 use Rattle.shell_state.specs.State.{State}
-use Rattle.shell_state.specs.Outcome.{Doing, Outcome, Ended, ◌>>◌, left_of, asked_of}
+use Rattle.shell_state.specs.Outcome.{Doing, Ended, ◌>>◌, left_of, asked_of}
 use Rattle.shell_state.specs.Spending.{step}
 use Rattle.shell_state.specs.Host.{Begins, Begun, Finished, Sourced, Refused, NotMine, Lasts, Later}
 use Rattle.run_meaning.specs.Builtins.{Argument, Plain}

@@ -1,6 +1,6 @@
 -- Loops ("Looping Constructs"). The number says how many turns may still be made; each turn spends a step, so a number
 -- that is at least the steps left never ends a loop.
-use Rattle.std.specs.Prelude.{ℕ, zero, suc, ◌+◌, Bool, true, false, not, List, [], ◌∷◌, None, if◌then◌else◌}
+use Rattle.std.specs.Prelude.{ℕ, zero, suc, ◌+◌, Bool, not, List, [], ◌∷◌, None, if◌then◌else◌}
 use Rattle.eb_bytes.specs.Text.{Text}
 use Rattle.shell_vars.specs.Calls.{assign}
 use Rattle.shell_state.specs.State.{State}

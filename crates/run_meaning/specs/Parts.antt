@@ -5,7 +5,7 @@ use Rattle.eb_syntax.specs.declared.tree.Assign.{Assign}
 use Rattle.eb_syntax.specs.declared.tree.Prefix.{Prefix, out-Prefix}
 use Rattle.eb_syntax.specs.declared.tree.Redir.{Redir}
 use Rattle.eb_syntax.specs.declared.tree.Tail.{Tail, out-Tail}
-use Rattle.eb_syntax.specs.declared.tree.TailPart.{TailPart, out-TailPart}
+use Rattle.eb_syntax.specs.declared.tree.TailPart.{out-TailPart}
 use Rattle.eb_syntax.specs.declared.tree.Word.{Word}
 use Rattle.shell_state.specs.State.{State}
 use Rattle.run_meaning.specs.Layers.{PrefixLayer, TailPartLayer}

@@ -10,7 +10,6 @@ use Rattle.eb_syntax.specs.declared.parts.FileOp.TheVariants as file
 use Rattle.eb_syntax.specs.declared.parts.WordOp.{WordOp}
 use Rattle.eb_syntax.specs.declared.parts.WordOp.TheVariants as op
 use Rattle.eb_syntax.specs.declared.tree.AP.TheOpen.{Redir-F}
-use Rattle.eb_syntax.specs.declared.tree.Command.{Command}
 use Rattle.eb_syntax.specs.declared.tree.Items.{Items}
 use Rattle.eb_syntax.specs.declared.tree.Redir.{Redir, out-Redir}
 use Rattle.shell_state.specs.State.{State}

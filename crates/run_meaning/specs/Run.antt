@@ -1,5 +1,5 @@
 -- The run of a command ("Shell Commands").
-use Rattle.std.specs.Prelude.{ℕ, zero, suc, List, codes}
+use Rattle.std.specs.Prelude.{ℕ, zero, suc, codes}
 use Rattle.eb_bytes.specs.Text.{Text}
 use Rattle.eb_syntax.specs.declared.tree.AP.TheOpen.{Command-F}
 use Rattle.eb_syntax.specs.declared.tree.Command.{Command, out-Command}

@@ -1,5 +1,5 @@
 -- Simple commands ("Simple Commands", "Simple Command Expansion", "Command Search and Execution", "Shell Functions").
-use Rattle.std.specs.Prelude.{ℕ, Bool, true, false, ◌&&◌, ◌==◌, List, [], ◌∷◌, ◌++◌, codes, length, unwrap_or, Option, Some, None, if◌then◌else◌}
+use Rattle.std.specs.Prelude.{ℕ, Bool, ◌&&◌, ◌==◌, List, [], ◌∷◌, ◌++◌, codes, length, unwrap_or, Option, Some, None, if◌then◌else◌}
 use Rattle.std.specs.List.{join_with_byte}
 use Rattle.eb_bytes.specs.Text.{Text}
 use Rattle.eb_grammar.specs.Grammar.{script, Reading, Node, Refused as Unread, TooDeep}
@@ -13,7 +13,7 @@ use Rattle.shell_vars.specs.Calls.{local, pop_frame, push_frame}
 use Rattle.shell_vars.specs.declared.kind.FrameKind.TheVariants as kind
 use Rattle.shell_vars.specs.declared.value.Value.TheVariants as value
 use Rattle.shell_state.specs.State.{State}
-use Rattle.shell_state.specs.Outcome.{Doing, Outcome, Ended, Faulted, and_then, ◌>>=◌, ◌>>◌, pure, refuse, change}
+use Rattle.shell_state.specs.Outcome.{Doing, Outcome, Faulted, and_then, ◌>>=◌, ◌>>◌, pure, refuse, change}
 use Rattle.shell_state.specs.Opening.{bringing_back, opens, within}
 use Rattle.shell_state.specs.Output.{prints}
 use Rattle.shell_state.specs.Spending.{script_cost, spend}

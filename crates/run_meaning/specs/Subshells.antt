@@ -1,5 +1,5 @@
 -- Subshells ("Command Grouping", "Command Substitution").
-use Rattle.std.specs.Prelude.{ℕ, ◌==◌, List, [], ◌∷◌, ◌++◌, length, take, slice_index_or, Option, Some, if◌then◌else◌}
+use Rattle.std.specs.Prelude.{ℕ, ◌==◌, List, [], ◌∷◌, ◌++◌, length, take, slice_index_or, Some, if◌then◌else◌}
 use Rattle.eb_bytes.specs.Text.{Text}
 use Rattle.eb_syntax.specs.declared.tree.Command.{Command}
 use Rattle.eb_syntax.specs.declared.tree.Items.{Items}

@@ -1,5 +1,5 @@
 -- A stand-in for the expansion of words, until that has a crate of its own: its names and its types.
-use Rattle.std.specs.Prelude.{ℕ, ℤ, List, [], Option, None}
+use Rattle.std.specs.Prelude.{ℤ, List, [], Option}
 use Rattle.eb_bytes.specs.Text.{Text}
 use Rattle.shell_marks.specs.declared.marked.Mark.{Mark}
 use Rattle.eb_syntax.specs.Tree.{ArithText, HereText, Sub}
