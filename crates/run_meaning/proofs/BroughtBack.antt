@@ -1,24 +1,22 @@
 -- What is brought back at the end of a part.
-use Rattle.std.proofs.Common.{◌≡◌, ℕ, ◌-◌, List, [], ◌∷◌, Some, Bool, true, false, refl, sym, ap, subst, ◌∙◌}
+use Rattle.std.proofs.Common.{◌≡◌, ℕ, ◌-◌, List, ◌∷◌, Some, Bool, true, false, refl, sym, ap, subst, ◌∙◌}
 use Rattle.std.specs.Prelude.{nat_le, if◌then◌else◌}
 use Rattle.eb_bytes.specs.Text.{Text}
 use Rattle.eb_syntax.specs.declared.tree.Command.{Command}
 use Rattle.eb_syntax.specs.declared.tree.Items.{Items}
 use Rattle.eb_syntax.specs.declared.tree.Redir.{Redir}
-use Rattle.shell_state.specs.Host.{Begins}
-use Rattle.shell_state.specs.Opening.{closed, opens, within}
+use Rattle.shell_state.specs.Opening.{closed, opens}
 use Rattle.shell_state.specs.Spending.{script_cost, spend, step}
 use Rattle.shell_state.specs.State.{State}
-use Rattle.shell_state.specs.Outcome.{Outcome, Ended, Faulted, Doing, ◌>>=◌, ◌>>◌, and_then, pure, change}
+use Rattle.shell_state.specs.Outcome.{Outcome, Ended, Faulted, Doing, ◌>>◌, and_then, pure, change}
 use Rattle.shell_state.specs.declared.fault.Fault.{Fault}
 use Rattle.shell_state.specs.declared.fault.Fault.TheVariants as fault
 use Rattle.shell_state.specs.declared.opened.Opened.TheVariants as opened
-use Rattle.run_meaning.specs.Builtins.{Plain}
 use Rattle.run_meaning.specs.Ends.{End, Goes}
 use Rattle.run_meaning.specs.Laws.{CallsBringBack, LoopsBringBack, RedirectionsEnd, ScriptsBringBack, SubshellsBringBack, SubstitutionsBringBack, left_by_subshell}
 use Rattle.run_meaning.specs.Lists.{items}
-use Rattle.run_meaning.specs.Loops.{looping, loops_back, one_more_loop}
-use Rattle.run_meaning.specs.Redirections.{io_back, redirected_back, redirs, take_input, under}
+use Rattle.run_meaning.specs.Loops.{loops_back, one_more_loop}
+use Rattle.run_meaning.specs.Redirections.{io_back, redirected_back, redirs, take_input}
 use Rattle.run_meaning.specs.Simple.{call, called_back, entered, names_itself, script_back, script_begins, source}
 use Rattle.run_meaning.specs.Subshells.{apart, capturing, output_of, returned, subshell, substitution, trimmed, unchanged, with_last}
 

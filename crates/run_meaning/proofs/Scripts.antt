@@ -1,7 +1,6 @@
 -- Small scripts, whose commands are such that how each ends is known.
-use Rattle.std.proofs.Common.{◌≡◌, ℕ, zero, suc, ◌+◌, List, [], ◌∷◌, Some, None, Bool, true, false, refl, codes}
-use Rattle.eb_bytes.specs.Text.{Text}
-use Rattle.eb_grammar.specs.Grammar.{Node, Refused as Unread, TooDeep}
+use Rattle.std.proofs.Common.{◌≡◌, ℕ, ◌+◌, List, [], ◌∷◌, None, true, false, refl, codes}
+use Rattle.eb_grammar.specs.Grammar.{Node, Refused as Unread}
 use Rattle.eb_syntax.specs.Tree.{Coproc, FuncDef, Item, Joined, Pipe}
 use Rattle.eb_syntax.specs.declared.parts.Bar.TheVariants as bar
 use Rattle.eb_syntax.specs.declared.parts.ItemEnd.{ItemEnd}
