@@ -1,0 +1,342 @@
+-- Two runs side by side: the parts that run no commands. Each is the same part twice.
+use Rattle.std.proofs.Common.{ℕ, zero, suc, ℤ, pos, negsuc, ◌-◌, min, List, [], ◌∷◌, ◌++◌, Option, Some, None, Bool, true, false, not, length, arith}
+use Rattle.std.specs.Prelude.{if◌then◌else◌, codes, is_some, Ok, Err, Result, nat_le, ◌==◌, ◌&&◌, ◌||◌, drop, take}
+use Rattle.std.specs.Str.{bytes_eq}
+use Rattle.byte_class.specs.Class.{is_name}
+use Rattle.eb_bytes.specs.Text.{Text}
+use Rattle.bash_arith.specs.Outcome as arithmetic
+use Rattle.bash_arith.specs.Value.{arithmetic as value_of}
+use Rattle.bash_cond.specs.Arithmetic.{ends_as, evaluates, variables_of}
+use Rattle.bash_cond.specs.Numbers.{numbers_stand}
+use Rattle.bash_cond.specs.Operators.{file_operator, is_before, stand, text_test}
+use Rattle.bash_cond.specs.Verdict.{Verdict, told}
+use Rattle.bash_cond.specs.Words.{truth}
+use Rattle.bash_cond.specs.declared.operator.Question.{Question}
+use Rattle.bash_cond.specs.declared.operator.Question.TheVariants.{Same, Different, Before, After, Numbers, Files}
+use Rattle.bash_cond.specs.declared.operator.Relation.{Relation}
+use Rattle.bash_params.specs.Cost.{match_cost}
+use Rattle.bash_patterns.specs.Form.{Form}
+use Rattle.bash_patterns.specs.Matching.{matches}
+use Rattle.bash_patterns.specs.Reading.{pattern_of}
+use Rattle.eb_grammar.specs.Grammar.{whole_ref}
+use Rattle.eb_syntax.specs.Tree.{Ref}
+use Rattle.eb_syntax.specs.declared.parts.RefOf.TheVariants as ref
+use Rattle.shell_functions.specs.Funcs.{without}
+use Rattle.shell_vars.specs.Calls.{element, get, unset, unset_elem}
+use Rattle.shell_vars.specs.Refused.{is_refused}
+use Rattle.shell_vars.specs.Store.{Store}
+use Rattle.shell_vars.specs.declared.error.VarErr.{VarErr}
+use Rattle.shell_state.specs.Faults.{variable_fault}
+use Rattle.shell_state.specs.Host.{Later}
+use Rattle.shell_state.specs.Output.{may_put, prints, put, puts}
+use Rattle.shell_state.specs.Spending.{spend, text_cost}
+use Rattle.shell_state.specs.State.{State}
+use Rattle.shell_state.specs.Outcome.{Outcome, Ended, Doing, ◌>>=◌, ◌>>◌, ◌<$>◌, pure, refuse, change, left_of, asked_of}
+use Rattle.shell_state.specs.declared.fault.Fault.{Fault}
+use Rattle.shell_state.specs.declared.fault.Fault.TheVariants as fault
+use Rattle.shell_state.specs.declared.io.Io.{Io}
+use Rattle.shell_state.specs.declared.io.Target.{Target}
+use Rattle.shell_state.proofs.Kept.{here, Kept, plain, Part, pure_part, refuse_part, change_part, bind_part, cond_part, state_part, spend_part}
+use Rattle.run_meaning.specs.Assignments.{changes, stores, with_store}
+use Rattle.run_meaning.specs.Builtins.{Unsets, as_status, bad_use, before_bracket, builtin, ends_options, is_dash_option, is_named, is_option, jumps, jumps_by, last_word, lets, lets_after, no_options, number_or, return_to, returns, sets, sets_letter, sets_letters, sets_option, shift, shifted, subscript_of, tests, tests_bracketed, unset_by, unset_either, unset_from, unset_function, unset_letters, unset_name, unset_parts, unset_variable, unset_word, unset_words, with_args, with_funcs, with_noglob}
+use Rattle.run_meaning.specs.Cases.{matches_case}
+use Rattle.run_meaning.specs.Conditions.{bracketed, compared, has_argument, has_at, has_element, has_elements, has_special, is_set, is_there, matched, matches_pattern, unary, unless_made_up}
+use Rattle.run_meaning.specs.Ends.{End, Goes, Breaks, Continues, Returns, status, with_status, truth_status, inverse, left_loop, turned, going}
+use Rattle.run_meaning.specs.Laws.{Keeps}
+use Rattle.run_meaning.specs.Lists.{inverted, unless_refused}
+use Rattle.run_meaning.specs.Redirections.{connects, redirects, with_io}
+use Rattle.run_meaning.specs.Words.{Marks}
+
+module _ (Agrees : List Text → Type 0) (front : (xs ys : List Text) → Agrees (xs ++ ys) → Agrees xs) (m n : ℕ) where
+  abbrev pub Self : {A : Type 0} → Doing A → Type 0
+  Self {A} f = Part Agrees front m n {A = A} f f
+
+  -- ---- ways to make a part
+
+  pub done : {A : Type 0} (a : A) → Self (pure a)
+  done a = pure_part Agrees front m n a
+
+  pub no : {A : Type 0} (why : Fault) → Self {A = A} (refuse why)
+  no why = refuse_part Agrees front m n why
+
+  pub changed : (f : State → State) → Self (change f)
+  changed f = change_part Agrees front m n f
+
+  pub bind : {A B : Type 0} (f g : Doing A) (h j : A → Doing B) → Part Agrees front m n f g → ((a : A) → Part Agrees front m n (h a) (j a)) → Part Agrees front m n (f >>= h) (g >>= j)
+  bind f g h j = bind_part Agrees front m n f g h j
+
+  pub next : {A B : Type 0} (f g : Doing A) (h j : Doing B) → Part Agrees front m n f g → Part Agrees front m n h j → Part Agrees front m n (f >> h) (g >> j)
+  next f g h j p q = bind_part Agrees front m n f g _ _ p (λ _. q)
+
+  pub image : {A B : Type 0} (f g : Doing A) (h : A → B) → Part Agrees front m n f g → Part Agrees front m n (h <$> f) (h <$> g)
+  image f g h p = bind_part Agrees front m n f g _ _ p (λ a. done (h a))
+
+  pub by_state : {A : Type 0} (f g : State → Doing A) → ((x : State) → Part Agrees front m n (f x) (g x)) → Part Agrees front m n (λ at. f at at) (λ at. g at at)
+  by_state f g = state_part Agrees front m n f g
+
+  pub either : {A : Type 0} (b : Bool) (f g h j : Doing A) → Part Agrees front m n f g → Part Agrees front m n h j → Part Agrees front m n (if b then f else h) (if b then g else j)
+  either b f g h j = cond_part Agrees front m n b f g h j
+
+  -- a part that gives no steps back and loses no name
+  pub kept : {A : Type 0} (f : Doing A) → Keeps f → Self f
+  kept f k at le lf = plain Agrees front at (f at) (k at)
+
+  pub spends : (k : ℕ) → Self (spend k)
+  spends k = spend_part Agrees front m n k
+
+  -- ---- ends
+
+  pub status_part : (s : ℕ) → Self (status s)
+  status_part s = next _ _ _ _ (changed (with_status s)) (done Goes)
+
+  pub inverted_part : (b : Bool) (e : End) → Self (inverted b e)
+  inverted_part true Goes = by_state _ _ (λ at. status_part (inverse at.status))
+  inverted_part true (Breaks i) = done (Breaks i)
+  inverted_part true (Continues i) = done (Continues i)
+  inverted_part true Returns = done Returns
+  inverted_part false e = done e
+
+  pub refused_part : (b : Bool) (why : Fault) (g h : Doing End) → Part Agrees front m n g h → Part Agrees front m n (unless_refused b why g) (unless_refused b why h)
+  refused_part true why g h p = no why
+  refused_part false why g h p = p
+
+  pub turned_part : (f g : Doing End) → Part Agrees front m n f g → (e : End) → Part Agrees front m n (turned f e) (turned g e)
+  turned_part f g p Goes = p
+  turned_part f g p (Breaks i) = done (left_loop i)
+  turned_part f g p (Continues zero) = p
+  turned_part f g p (Continues (suc zero)) = p
+  turned_part f g p (Continues (suc (suc i))) = done (Continues (suc i))
+  turned_part f g p Returns = done Returns
+
+  pub going_part : (f g : Doing End) → Part Agrees front m n f g → (e : End) → Part Agrees front m n (going f e) (going g e)
+  going_part f g p Goes = p
+  going_part f g p (Breaks i) = done (Breaks i)
+  going_part f g p (Continues i) = done (Continues i)
+  going_part f g p Returns = done Returns
+
+  -- ---- variables, numbers, inputs and outputs
+
+  stores_part : (x : Text) (r : Result Store VarErr) → Self (stores x r)
+  stores_part x (Ok s) = changed (with_store s)
+  stores_part x (Err refused) = no (variable_fault x refused)
+
+  pub changes_part : (x : Text) (make : Store → Result Store VarErr) → Self (changes x make)
+  changes_part x make = by_state _ _ (λ at. stores_part x (make at.store))
+
+  ends_later : (t : Text) (o : arithmetic.Outcome) (at : State) → Later at (left_of (ends_as t o at)) (asked_of (ends_as t o at))
+  ends_later t (arithmetic.Ended v s) at = record { less = omega arith; more = (here at).more; kept = (here at).kept }
+  ends_later t (arithmetic.Faulted e s) at = record { less = omega arith; more = (here at).more; kept = (here at).kept }
+  ends_later t (arithmetic.Changed s o) at = ends_later t o at
+
+  pub evaluates_part : (t : Text) → Self (evaluates t)
+  unfolding evaluates
+  evaluates_part t at le lf = plain Agrees front at (evaluates t at) (ends_later t (arithmetic.last (value_of t (variables_of at))) at)
+
+  connects_part : (t : Text) (io : Option Io) → Self (connects t io)
+  connects_part t None = no (fault.RedirectRefused t)
+  connects_part t (Some io) = changed (with_io io)
+
+  pub redirects_part : (make : Io → Option Io) (t : Text) → Self (redirects make t)
+  redirects_part make t = by_state _ _ (λ at. connects_part t (make at.io))
+
+  abbrev put_if : Bool → Io → State → Outcome (Unit {0})
+  put_if b io at = if b then Ended tt (record at { io = io }) else refuse fault.ValueSize at
+
+  puts_if : (b : Bool) (io : Io) (at : State) → Kept Agrees front at (put_if b io at) (put_if b io at)
+  puts_if true io at = plain Agrees front at (put_if true io at) (here at)
+  puts_if false io at = plain Agrees front at (put_if false io at) (here at)
+
+  puts_part : (target : Target) (t : Text) → Self (puts target t)
+  puts_part target t at le lf = puts_if (may_put target t at.io) (put target t at.io) at
+
+  pub prints_part : (t : Text) → Self (prints t)
+  prints_part t = next _ _ _ _ (spends (text_cost t)) (by_state _ _ (λ at. puts_part at.io.out t))
+
+  -- ---- conditions
+
+  told_part : (v : Verdict) → Self (told v)
+  told_part (Ok b) = done b
+  told_part (Err why) = no why
+
+  matched_part : (form : Option Form) (ms : Marks) (t : Text) → Self (matched form ms t)
+  matched_part None ms t = no fault.PatternDeep
+  matched_part (Some form) ms t = next _ _ _ _ (spends (match_cost (length t) (length ms))) (done (matches form t))
+
+  pub matches_part : (extended : Bool) (ms : Marks) (t : Text) → Self (matches_pattern extended ms t)
+  matches_part extended ms t = matched_part (pattern_of extended ms) ms t
+
+  pub matches_case_part : (t : Text) (ms : Marks) → Self (matches_case t ms)
+  matches_case_part t ms = by_state _ _ (λ at. matches_part at.opts.extglob ms t)
+
+  there_part : (name : Text) (r : Result (Option Text) VarErr) → Self (is_there name r)
+  there_part name (Ok found) = done (is_some found)
+  there_part name (Err refused) = no (variable_fault name refused)
+
+  made_up_part : (name : Text) (f : Doing Bool) → Self f → Self (unless_made_up name f)
+  made_up_part name f p = either (is_refused name) _ _ _ _ (no (fault.Unsupported name)) p
+
+  has_element_part : (name : Text) (at : Option ℤ) → Self (has_element name at)
+  has_element_part name at = made_up_part name _ (by_state _ _ (λ s. there_part name (element name at s.store)))
+
+  has_elements_part : (name : Text) → Self (has_elements name)
+  has_elements_part name = made_up_part name _ (by_state _ _ (λ s. done _))
+
+  has_at_part : (name e : Text) → Self (has_at name e)
+  has_at_part name e =
+      either (bytes_eq e (codes "@") || bytes_eq e (codes "*")) _ _ _ _ (has_elements_part name)
+      (bind _ _ _ _ (evaluates_part e) (λ at. has_element_part name (Some at)))
+
+  has_argument_part : (k : ℕ) → Self (has_argument k)
+  has_argument_part k = by_state _ _ (λ at. done (nat_le k (length at.args)))
+
+  has_special_part : (b : ℕ) → Self (has_special b)
+  has_special_part b =
+      either (b == 64 || b == 42) _ _ _ _ (has_argument_part 1)
+      (either (b == 35 || b == 63) _ _ _ _ (done true) (no (fault.Unsupported (36 ∷ b ∷ []))))
+
+  is_set_part : (t : Text) (r : Option Ref) → Self (is_set t r)
+  is_set_part t None = no (fault.BadSubstitution t)
+  is_set_part t (Some (ref.Name name None)) = has_element_part name None
+  is_set_part t (Some (ref.Name name (Some s))) = has_at_part name (bracketed t)
+  is_set_part t (Some (ref.Digits ds)) = has_argument_part _
+  is_set_part t (Some (ref.Special b)) = has_special_part b
+
+  pub unary_part : (letter : ℕ) (t : Text) → Self (unary letter t)
+  unary_part letter t = either (letter == 118) _ _ _ _ (is_set_part t (whole_ref t)) (told_part (text_test letter t))
+
+  numbers_part : (relation : Relation) (t u : Text) → Self (numbers_stand relation t u)
+  numbers_part relation t u = bind _ _ _ _ (evaluates_part t) (λ a. bind _ _ _ _ (evaluates_part u) (λ b. done (stand relation a b)))
+
+  pub compared_part : (q : Question) (t u : Text) → Self (compared q t u)
+  compared_part Before t u = done (is_before t u)
+  compared_part After t u = done (is_before u t)
+  compared_part (Numbers relation) t u = numbers_part relation t u
+  compared_part (Files relation) t u = no (fault.FileTest (file_operator relation))
+  compared_part Same t u = done (bytes_eq t u)
+  compared_part Different t u = done (not (bytes_eq t u))
+
+  -- ---- builtins
+
+  pub bad : {A : Type 0} (name : Text) → Self {A = A} (bad_use name)
+  bad name = no (fault.BadUse name)
+
+  returns_part : (k : Option ℤ) → Self (returns k)
+  returns_part None = bad (codes "return")
+  returns_part (Some k) = next _ _ _ _ (status_part (as_status k)) (done Returns)
+
+  return_part : (ws : List Text) → Self (return_to ws)
+  return_part [] = done Returns
+  return_part (w ∷ ws) = returns_part (number_or (pos 0) (w ∷ ws))
+
+  jumps_part : (name : Text) (jump : ℕ → End) (k : Option ℤ) (loops : ℕ) → Self (jumps name jump k loops)
+  jumps_part name jump None loops = bad name
+  jumps_part name jump (Some (negsuc k)) loops = bad name
+  jumps_part name jump (Some (pos zero)) loops = bad name
+  jumps_part name jump (Some (pos (suc k))) zero = bad name
+  jumps_part name jump (Some (pos (suc k))) (suc loops) = next _ _ _ _ (status_part 0) (done (jump (min (suc k) (suc loops))))
+
+  jumps_by_part : (name : Text) (jump : ℕ → End) (ws : List Text) → Self (jumps_by name jump ws)
+  jumps_by_part name jump ws = by_state _ _ (λ at. jumps_part name jump (number_or (pos 1) ws) at.loops)
+
+  shifted_part : (k : Option ℤ) (ts : List Text) → Self (shifted k ts)
+  shifted_part None ts = bad (codes "shift")
+  shifted_part (Some (negsuc k)) ts = bad (codes "shift")
+  shifted_part (Some (pos k)) ts = either (nat_le k (length ts)) _ _ _ _ (next _ _ _ _ (changed (with_args (drop k ts))) (status_part 0)) (bad (codes "shift"))
+
+  shift_part : (ws : List Text) → Self (shift ws)
+  shift_part ws = by_state _ _ (λ at. shifted_part (number_or (pos 1) ws) at.args)
+
+  sets_letter_part : (sign letter : ℕ) → Self (sets_letter sign letter)
+  sets_letter_part sign letter =
+      either (letter == 102) _ _ _ _ (changed (with_noglob (sign == 45))) (either (letter == 120) _ _ _ _ (done tt) (no (fault.BadOption (codes "set") (sign ∷ letter ∷ []))))
+
+  sets_letters_part : (sign : ℕ) (letters : Text) → Self (sets_letters sign letters)
+  sets_letters_part sign [] = done tt
+  sets_letters_part sign (letter ∷ letters) = next _ _ _ _ (sets_letter_part sign letter) (sets_letters_part sign letters)
+
+  sets_option_part : (t : Text) → Self (sets_option t)
+  sets_option_part [] = done tt
+  sets_option_part (sign ∷ letters) = sets_letters_part sign letters
+
+  sets_part : (ws : List Text) → Self (sets ws)
+  sets_part [] = status_part 0
+  sets_part (w ∷ ws) =
+      either (ends_options w) _ _ _ _ (next _ _ _ _ (changed (with_args ws)) (status_part 0))
+      (either (is_option w) _ _ _ _ (next _ _ _ _ (sets_option_part w) (sets_part ws)) (next _ _ _ _ (changed (with_args (w ∷ ws))) (status_part 0)))
+
+  unset_letters_part : (letters : Text) (u : Unsets) → Self (unset_letters letters u)
+  unset_letters_part [] u = done u
+  unset_letters_part (letter ∷ letters) u =
+      either (letter == 118) _ _ _ _ (unset_letters_part letters _)
+      (either (letter == 102) _ _ _ _ (unset_letters_part letters _) (no (fault.BadOption (codes "unset") (45 ∷ letter ∷ []))))
+
+  unset_function_part : (name : Text) → Self (unset_function name)
+  unset_function_part name = by_state _ _ (λ at. changed (with_funcs (without name at.funcs)))
+
+  unset_variable_part : (name : Text) (e : Option Text) → Self (unset_variable name e)
+  unset_variable_part name None = changes_part name (unset name)
+  unset_variable_part name (Some e) = bind _ _ _ _ (evaluates_part e) (λ at. changes_part name (unset_elem name at))
+
+  unset_either_part : (name : Text) → Self (unset_either name)
+  unset_either_part name = by_state _ _ (λ at. either (is_some (get name at.store)) _ _ _ _ (unset_variable_part name None) (unset_function_part name))
+
+  unset_name_part : (u : Unsets) (name : Text) → Self (unset_name u name)
+  unset_name_part u name = either u.variable _ _ _ _ (unset_variable_part name None) (unset_either_part name)
+
+  unset_parts_part : (u : Unsets) (word name : Text) (e : Option Text) → Self (unset_parts u word name e)
+  unset_parts_part u word name (Some e) = either (is_name name) _ _ _ _ (unset_variable_part name (Some e)) (no (fault.BadName word))
+  unset_parts_part u word name None = either (is_name word) _ _ _ _ (unset_name_part u word) (no (fault.BadName word))
+
+  unset_word_part : (u : Unsets) (w : Text) → Self (unset_word u w)
+  unset_word_part u w = either u.function _ _ _ _ (unset_function_part w) (unset_parts_part u w (before_bracket w) (subscript_of w))
+
+  unset_words_part : (u : Unsets) (ws : List Text) → Self (unset_words u ws)
+  unset_words_part u [] = done tt
+  unset_words_part u (w ∷ ws) = next _ _ _ _ (unset_word_part u w) (unset_words_part u ws)
+
+  unset_by_part : (ws : List Text) (u : Unsets) → Self (unset_by ws u)
+  unset_by_part ws u = either (u.variable && u.function) _ _ _ _ (bad (codes "unset")) (next _ _ _ _ (unset_words_part u ws) (status_part 0))
+
+  unset_from_part : (ws : List Text) (u : Unsets) → Self (unset_from ws u)
+  unset_from_part [] u = unset_by_part [] u
+  unset_from_part (w ∷ ws) u =
+      either (ends_options w) _ _ _ _ (unset_by_part ws u)
+      (either (is_dash_option w) _ _ _ _ (bind _ _ _ _ (unset_letters_part (drop 1 w) u) (λ v. unset_from_part ws v)) (unset_by_part (w ∷ ws) u))
+
+  lets_after_part : (last : ℤ) (ws : List Text) → Self (lets_after last ws)
+  lets_after_part last [] = done last
+  lets_after_part last (w ∷ ws) = bind _ _ _ _ (evaluates_part w) (λ k. lets_after_part k ws)
+
+  lets_part : (ws : List Text) → Self (lets ws)
+  lets_part [] = bad (codes "let")
+  lets_part (w ∷ ws) = bind _ _ _ _ (lets_after_part (pos 0) (w ∷ ws)) (λ k. status_part _)
+
+  tests_part : (ws : List Text) → Self (tests ws)
+  tests_part ws = bind _ _ _ _ (by_state _ _ (λ at. told_part (truth at.store ws))) (λ b. status_part (truth_status b))
+
+  bracketed_part : (ws : List Text) → Self (tests_bracketed ws)
+  bracketed_part ws = either (bytes_eq (last_word ws) (codes "]")) _ _ _ _ (tests_part (take (length ws - 1) ws)) (no (fault.BadTest (codes "[")))
+
+  -- what a name may mean
+  pub data SelfIfAny : Option (Doing End) → Type 0 where
+    nothing : SelfIfAny None
+    something : (f : Doing End) → Self f → SelfIfAny (Some f)
+
+  chosen : (b : Bool) (x y : Option (Doing End)) → SelfIfAny x → SelfIfAny y → SelfIfAny (if b then x else y)
+  chosen true x y p q = p
+  chosen false x y p q = q
+
+  pub builtin_part : (name : Text) (ws : List Text) → SelfIfAny (builtin name ws)
+  builtin_part name ws =
+      chosen (is_named name (codes ":")) _ _ (something _ (status_part 0))
+      (chosen (is_named name (codes "true")) _ _ (something _ (status_part 0))
+      (chosen (is_named name (codes "false")) _ _ (something _ (status_part 1))
+      (chosen (is_named name (codes "return")) _ _ (something _ (return_part ws))
+      (chosen (is_named name (codes "break")) _ _ (something _ (jumps_by_part name Breaks ws))
+      (chosen (is_named name (codes "continue")) _ _ (something _ (jumps_by_part name Continues ws))
+      (chosen (is_named name (codes "shift")) _ _ (something _ (shift_part ws))
+      (chosen (is_named name (codes "set")) _ _ (something _ (sets_part ws))
+      (chosen (is_named name (codes "unset")) _ _ (something _ (unset_from_part ws no_options))
+      (chosen (is_named name (codes "let")) _ _ (something _ (lets_part ws))
+      (chosen (is_named name (codes "test")) _ _ (something _ (tests_part ws))
+      (chosen (is_named name (codes "[")) _ _ (something _ (bracketed_part ws)) nothing)))))))))))
