@@ -1,0 +1,7 @@
+mod Built
+pub mod Lasting
+mod OperatorsKept
+mod PartsKept
+pub mod ReferencesKept
+mod Rows
+pub mod WordsKept

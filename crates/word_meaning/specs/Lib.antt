@@ -1,0 +1,12 @@
+pub mod Laws
+pub mod Layers
+pub mod Limits
+pub mod Literals
+pub mod Lists
+pub mod Marks
+pub mod Operators
+pub mod Pathnames
+pub mod References
+pub mod Texts
+pub mod Tilde
+pub mod Words
