@@ -53,11 +53,12 @@ use Rattle.run_meaning.specs.Run.{command_at, defining}
 use Rattle.run_meaning.specs.Simple.{by_builtin, by_eval, by_function, by_host, by_name, by_plain, call, called_back, entered, evaluated, hosted, invoked, joined_words, last_status, performed, script_back, script_begins, simple, source, stands_alone}
 use Rattle.run_meaning.specs.Subshells.{apart, capturing, output_of, returned, substitution, subshell, trimmed, unchanged, with_last}
 use Rattle.run_meaning.specs.Values.{GivenArray, GivenText, bound as bound_to, made}
-use Rattle.run_meaning.specs.Words.{fields, pattern, text}
+use Rattle.word_meaning.specs.Lists.{fields}
+use Rattle.word_meaning.specs.Texts.{pattern, text}
 use Rattle.run_meaning.proofs.LoopsKept.{arith_turns_part, for_turns_part, looping_part, while_part}
 use Rattle.run_meaning.proofs.Paid.{Costs, Pays, going_pays, inverted_pays}
 use Rattle.run_meaning.proofs.PartsKept.{SelfIfAny, nothing, something, bind as bind_both, builtin_part, by_state as by_state_both, changed as changed_both, changes_part, compared_part, done as done_both, either as either_both, evaluates_part, going_part, image as image_both, inverted_part, kept, matches_case_part, matches_part, next as next_both, no as no_both, prints_part, redirects_part, refused_part, spends, status_part as status_both, unary_part}
-use Rattle.run_meaning.proofs.WordsKept.{arith_part, assigned_part, elements_part, fields_part, here_part, pattern_part, subscript_part, text_part}
+use Rattle.word_meaning.proofs.WordsKept.{arith_part, assigned_part, elements_part, fields_part, here_part, pattern_part, subscript_part, text_part}
 
 -- ---- a jump has paid
 

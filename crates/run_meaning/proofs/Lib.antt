@@ -6,4 +6,3 @@ pub mod Paid
 pub mod PartsKept
 pub mod RunsKept
 mod Scripts
-mod WordsKept

@@ -45,7 +45,7 @@ use Rattle.run_meaning.specs.Ends.{End, Goes, Breaks, Continues, Returns, status
 use Rattle.run_meaning.specs.Laws.{Keeps}
 use Rattle.run_meaning.specs.Lists.{inverted, unless_refused}
 use Rattle.run_meaning.specs.Redirections.{connects, redirects, with_io}
-use Rattle.run_meaning.specs.Words.{Marks}
+use Rattle.shell_marks.specs.declared.marked.Mark.{Mark}
 
 module _ (Agrees : List Text → Type 0) (front : (xs ys : List Text) → Agrees (xs ++ ys) → Agrees xs) (m n : ℕ) where
   abbrev pub Self : {A : Type 0} → Doing A → Type 0
@@ -158,14 +158,14 @@ module _ (Agrees : List Text → Type 0) (front : (xs ys : List Text) → Agrees
   told_part (Ok b) = done b
   told_part (Err why) = no why
 
-  matched_part : (form : Option Form) (ms : Marks) (t : Text) → Self (matched form ms t)
+  matched_part : (form : Option Form) (ms : List Mark) (t : Text) → Self (matched form ms t)
   matched_part None ms t = no fault.PatternDeep
   matched_part (Some form) ms t = next _ _ _ _ (spends (match_cost (length t) (length ms))) (done (matches form t))
 
-  pub matches_part : (extended : Bool) (ms : Marks) (t : Text) → Self (matches_pattern extended ms t)
+  pub matches_part : (extended : Bool) (ms : List Mark) (t : Text) → Self (matches_pattern extended ms t)
   matches_part extended ms t = matched_part (pattern_of extended ms) ms t
 
-  pub matches_case_part : (t : Text) (ms : Marks) → Self (matches_case t ms)
+  pub matches_case_part : (t : Text) (ms : List Mark) → Self (matches_case t ms)
   matches_case_part t ms = by_state _ _ (λ at. matches_part at.opts.extglob ms t)
 
   there_part : (name : Text) (r : Result (Option Text) VarErr) → Self (is_there name r)

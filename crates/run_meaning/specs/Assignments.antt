@@ -15,7 +15,8 @@ use Rattle.shell_state.specs.Outcome.{Doing, ◌>>=◌, ◌>>◌, ◌<$>◌, pur
 use Rattle.shell_state.specs.Opening.{bringing_back}
 use Rattle.shell_state.specs.Faults.{variable_fault}
 use Rattle.run_meaning.specs.Values.{Assignment, Given, GivenText, GivenArray, bound, made}
-use Rattle.run_meaning.specs.Words.{assigned as assigned_text, elements, subscript_text}
+use Rattle.word_meaning.specs.Literals.{elements}
+use Rattle.word_meaning.specs.Texts.{assigned as assigned_text, subscript_text}
 
 abbrev pub with_store : Store → State → State
 with_store s at = record at { store = s }

@@ -11,10 +11,11 @@ use Rattle.run_meaning.specs.Conditions.{matches_pattern}
 use Rattle.run_meaning.specs.Ends.{End, Goes, status, going}
 use Rattle.run_meaning.specs.Lists.{items}
 use Rattle.run_meaning.specs.Subshells.{substitution}
-use Rattle.run_meaning.specs.Words.{Marks, pattern}
+use Rattle.shell_marks.specs.declared.marked.Mark.{Mark}
+use Rattle.word_meaning.specs.Texts.{pattern}
 
 -- whether a pattern matches; extended groups are read where the shell has them
-abbrev pub matches_case : Text → Marks → Doing Bool
+abbrev pub matches_case : Text → List Mark → Doing Bool
 matches_case t ms = λ at. matches_pattern at.opts.extglob ms t at
 
 -- after the commands of a clause: ";;&" tries the others, ";&" runs the next one too

@@ -21,7 +21,8 @@ use Rattle.run_meaning.specs.Layers.{APLayer, CompoundLayer}
 use Rattle.run_meaning.specs.Lists.{items}
 use Rattle.run_meaning.specs.Loops.{arith_turns, for_turns, looping, while_turns}
 use Rattle.run_meaning.specs.Subshells.{substitution, subshell}
-use Rattle.run_meaning.specs.Words.{arith_text, fields, text}
+use Rattle.word_meaning.specs.Lists.{fields}
+use Rattle.word_meaning.specs.Texts.{arith_text, text}
 
 abbrev pub is_zero : ℤ → Bool
 is_zero n = int_eq n (pos 0)

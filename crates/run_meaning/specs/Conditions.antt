@@ -32,16 +32,17 @@ use Rattle.shell_state.specs.Spending.{spend}
 use Rattle.shell_state.specs.declared.fault.Fault.TheVariants as fault
 use Rattle.run_meaning.specs.Builtins.{after_bracket}
 use Rattle.run_meaning.specs.Layers.{NotLayer, PrimaryLayer}
-use Rattle.run_meaning.specs.Words.{Marks, pattern, text}
+use Rattle.shell_marks.specs.declared.marked.Mark.{Mark}
+use Rattle.word_meaning.specs.Texts.{pattern, text}
 
 -- ---- patterns
 
-abbrev pub matched : Option Form → Marks → Text → Doing Bool
+abbrev pub matched : Option Form → List Mark → Text → Doing Bool
 matched None ms t = refuse fault.PatternDeep
 matched (Some form) ms t = spend (match_cost (length t) (length ms)) >> pure (matches form t)
 
 -- whether a pattern matches a text; a pattern that is nested too deeply is at fault before the match is paid
-abbrev pub matches_pattern : (extended : Bool) → Marks → Text → Doing Bool
+abbrev pub matches_pattern : (extended : Bool) → List Mark → Text → Doing Bool
 matches_pattern extended ms t = matched (pattern_of extended ms) ms t
 
 -- ---- `-v`

@@ -20,7 +20,7 @@ use Rattle.run_meaning.specs.Parts.{assigns_before, command_begins, redirs_befor
 use Rattle.run_meaning.specs.Redirections.{under}
 use Rattle.run_meaning.specs.Subshells.{substitution}
 use Rattle.run_meaning.specs.Values.{Assignment, GivenText}
-use Rattle.run_meaning.specs.Words.{fields}
+use Rattle.word_meaning.specs.Lists.{fields}
 
 -- ---- words that assign
 

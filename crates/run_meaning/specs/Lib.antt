@@ -15,4 +15,3 @@ pub mod Run
 pub mod Simple
 pub mod Subshells
 pub mod Values
-pub mod Words

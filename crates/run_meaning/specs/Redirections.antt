@@ -21,7 +21,7 @@ use Rattle.shell_state.specs.declared.io.Target.{Target}
 use Rattle.shell_state.specs.declared.io.Target.TheVariants.{Drop}
 use Rattle.shell_state.specs.declared.opened.Opened.TheVariants as opened
 use Rattle.run_meaning.specs.Layers.{RedirLayer}
-use Rattle.run_meaning.specs.Words.{text, here_text}
+use Rattle.word_meaning.specs.Texts.{text, here_text}
 
 -- ---- descriptors
 

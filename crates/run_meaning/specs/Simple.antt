@@ -28,7 +28,7 @@ use Rattle.run_meaning.specs.Lists.{items}
 use Rattle.run_meaning.specs.Parts.{assigns_before, command_begins, redirs_before, redirs_of, words_of}
 use Rattle.run_meaning.specs.Redirections.{under}
 use Rattle.run_meaning.specs.Subshells.{substitution}
-use Rattle.run_meaning.specs.Words.{fields}
+use Rattle.word_meaning.specs.Lists.{fields}
 
 -- ---- calls of functions
 
