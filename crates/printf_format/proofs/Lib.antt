@@ -1,0 +1,5 @@
+pub mod Appended
+pub mod Fillings
+pub mod Spelt
+pub mod Used
+pub mod Values
