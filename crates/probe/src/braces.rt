@@ -31,6 +31,9 @@ pub fn braces(text: &[u8], answer: &mut Answer) -> Result<(), Fault> {
     Ok(())
 }
 
+// How many groups in one another are shown.
+const NESTED: u8 = 200;
+
 // What is read of a word: its pieces, and the groups that are open, each with the byte before its parenthesis.
 #[derive(Drop)]
 struct Open {
@@ -171,34 +174,33 @@ fn quoted(alloc: Global, text: &[u8]) -> Result<Items<QPiece>, Memory> {
 fn text_of(alloc: Global, pieces: &[Piece]) -> Result<Bytes, Memory> {
     let mut text = Bytes::new(alloc);
     for piece in pieces {
-        push_piece(&mut text, piece)?;
+        push_piece(&mut text, piece, NESTED)?;
     }
     Ok(text)
 }
 
-fn push_piece(text: &mut Bytes, piece: &Piece) -> Result<(), Memory> {
+// Puts a piece's text after the text, where so many groups in one another are shown.
+fn push_piece(text: &mut Bytes, piece: &Piece, nested: u8) -> Result<(), Memory> {
     match piece {
         Piece::Plain(Plain::Byte(byte)) | Piece::Escaped(byte) => text.push(*byte),
         Piece::Plain(Plain::Lone) => text.push(b'$'),
         Piece::Single(quoted) => text.extend(quoted.get().as_slice()),
-        Piece::Double(_, quoted) => {
-            for piece in quoted.get().as_slice() {
-                if let QPiece::Byte(byte) = piece {
-                    text.push(*byte)?;
-                }
-            }
-            Ok(())
-        }
+        Piece::Double(_, quoted) => push_quoted(text, quoted.get().as_slice()),
         Piece::Dollar(Dollar::Name(name)) => {
             text.extend(b"${")?;
             text.extend(name.get().as_slice())?;
             text.push(b'}')
         }
-        Piece::Group(kind, parts) => {
+        Piece::Group(kind, parts) if 0 < nested => {
             text.push(*kind)?;
             text.push(b'(')?;
             for part in parts.get().as_slice() {
-                push_part(text, part)?;
+                match part {
+                    GroupPartOf::Piece(piece) => push_piece(text, piece, nested - 1)?,
+                    GroupPartOf::Blank(Blank::Space) => text.push(b' ')?,
+                    GroupPartOf::Blank(_) => text.push(b'\t')?,
+                    GroupPartOf::Bar => text.push(b'|')?,
+                }
             }
             text.push(b')')
         }
@@ -206,12 +208,11 @@ fn push_piece(text: &mut Bytes, piece: &Piece) -> Result<(), Memory> {
     }
 }
 
-fn push_part(text: &mut Bytes, part: &GroupPart) -> Result<(), Memory> {
-    match part {
-        GroupPartOf::Piece(piece) => push_piece(text, piece),
-        GroupPartOf::Blank(Blank::Space) => text.push(b' '),
-        GroupPartOf::Blank(Blank::Tab) => text.push(b'\t'),
-        GroupPartOf::Blank(Blank::Continuation) => Ok(()),
-        GroupPartOf::Bar => text.push(b'|'),
+fn push_quoted(text: &mut Bytes, pieces: &[QPiece]) -> Result<(), Memory> {
+    for piece in pieces {
+        if let QPiece::Byte(byte) = piece {
+            text.push(*byte)?;
+        }
     }
+    Ok(())
 }
