@@ -1,1 +1,5 @@
 pub mod References
+pub mod DollarForms
+pub mod BackTexts
+pub mod Parameters
+pub mod NameBytes

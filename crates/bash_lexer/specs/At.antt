@@ -1,25 +1,31 @@
 -- The rules that stand inside a nesting, by how many nestings may still be opened, and the nestings that they open.
-use Rattle.std.specs.Prelude.{ℕ, Bool, false}
+use Rattle.std.specs.Prelude.{ℕ, Bool, false, Option, Result}
+use denote.Ref.{MutBor}
 use Rattle.eb_syntax.specs.declared.tree.Items.{Items}
+use Rattle.eb_syntax.specs.declared.tree.Op.{Op}
 use Rattle.eb_syntax.specs.declared.tree.Param.{Param}
+use Rattle.eb_syntax.specs.declared.tree.Param.TheVariants as p
 use Rattle.eb_syntax.specs.declared.tree.Piece.{Piece}
 use Rattle.eb_syntax.specs.declared.tree.QPiece.{QPiece}
 use Rattle.eb_syntax.specs.declared.tree.Dollar.{Dollar}
 use Rattle.eb_syntax.specs.declared.tree.PW.{PW}
-use Rattle.eb_syntax.specs.Tree.{ArithText, Body, Sub}
+use Rattle.eb_syntax.specs.Tree.{ArithText, Back, Body, DQ, Sub}
 use Rattle.eb_bytes.specs.Text.{Text}
 use Rattle.eb_grammar.specs.declared.class.Class.{Class}
 use Rattle.eb_grammar.specs.declared.class.Class.TheVariants as class
 use Rattle.eb_grammar.specs.Classes.{byte}
-use Rattle.eb_grammar.specs.Peg.{Rule, ◌>>◌, ◌>>=◌, ◌</>◌, lit, nest, not_at}
+use Rattle.eb_grammar.specs.Peg.{Rule, ◌>>◌, ◌>>=◌, ◌<$>◌, ◌</>◌, lit, maybe, nest, not_at, pure}
 use Rattle.eb_grammar.specs.Names.{name}
 use Rattle.eb_grammar.specs.Rules.{Rules}
 use Rattle.eb_grammar.specs.Grammar.{inside, rules_in}
-use Rattle.eb_grammar.specs.ArithText.{arith, arith_piece, parentheses}
+use Rattle.eb_grammar.specs.ArithText.{arith, arith_part, arith_piece, parentheses}
 use Rattle.eb_grammar.specs.Commands.{body, items}
-use Rattle.eb_grammar.specs.Params.{indirect_param, names_param, param, subscript, text_piece}
-use Rattle.eb_grammar.specs.Words.{arith_dollar, dollar, group, group_start, piece, process, process_start, quoted_piece, substitution}
+use Rattle.eb_grammar.specs.Params.{change, param, ref, subscript, text_piece}
+use Rattle.eb_grammar.specs.Words.{arith_dollar, backquoted, dollar, double, double_quoted, group, group_start, piece, process, process_start, quoted_piece, substitution}
 use Rattle.eb_syntax.specs.declared.tree.AP.{AP}
+use Rattle.bash_cursor.specs.declared.error.LexErr.{LexErr}
+use Rattle.bash_cursor.specs.Reads.{ReadsBelow}
+use Rattle.bash_cursor.specs.Seen.{Seen}
 
 abbrev pub items_at : ℕ → Rule Items
 items_at n = items (inside n)
@@ -33,6 +39,15 @@ piece_at n = piece (inside n)
 abbrev pub quoted_at : ℕ → Rule QPiece
 quoted_at n = quoted_piece (inside n)
 
+abbrev pub double_quoted_at : ℕ → Rule DQ
+double_quoted_at n = double_quoted (inside n)
+
+abbrev pub double_at : ℕ → Rule Piece
+double_at n = double (inside n)
+
+abbrev pub back_at : ℕ → Rule Back
+back_at n = backquoted (inside n)
+
 abbrev pub dollar_at : Bool → ℕ → Rule Dollar
 dollar_at quoted n = dollar (inside n) quoted
 
@@ -41,6 +56,12 @@ subscript_at n = subscript (inside n)
 
 abbrev pub arith_at : Bool → ℕ → Rule ArithText
 arith_at quoted n = arith (inside n) quoted
+
+abbrev pub arith_piece_at : Bool → ℕ → Rule AP
+arith_piece_at quoted n = arith_piece (inside n) quoted
+
+abbrev pub arith_part_at : ℕ → Rule ArithText
+arith_part_at n = arith_part (inside n)
 
 abbrev pub param_at : Bool → ℕ → Rule Param
 param_at quoted n = param (rules_in (inside n)) quoted
@@ -55,9 +76,13 @@ arith_expansion_at quoted n = nest (inside n) (lit "$((") (arith_dollar quoted)
 abbrev pub substitution_at : ℕ → Rule Items
 substitution_at n = nest (inside n) (lit "$(") substitution
 
+-- Param, with the rules that stand inside it
+unfoldable pub param_inside : Bool → Rules → Rule Param
+param_inside quoted inside = param inside quoted
+
 -- ^Param
 abbrev pub param_expansion_at : Bool → ℕ → Rule Param
-param_expansion_at quoted n = nest (inside n) (lit "${") (λ rules. param rules quoted)
+param_expansion_at quoted n = nest (inside n) (lit "${") (param_inside quoted)
 
 -- ^("(" AP* ")")
 abbrev pub parentheses_at : Bool → ℕ → Rule ArithText
@@ -97,6 +122,29 @@ pattern_piece inside = not_at (lit "/") >> text_piece inside
 abbrev pub arith_part_piece : ℕ → Rule AP
 arith_part_piece n = not_at (lit ";") >> arith_piece (inside n) false
 
--- "${!" Ref [@*] "}" / "${!" Ref Op? "}"
-abbrev pub marked_param : Rules → Bool → Rule Param
-marked_param inside quoted = names_param inside </> indirect_param inside quoted
+-- [@*] "}"
+unfoldable pub names_end : Rule ℕ
+names_end = do
+  how ← byte class.AllElements
+  lit "}"
+  pure how
+
+-- Op? "}"
+unfoldable pub change_end : Rules → Bool → Rule (Option Op)
+change_end inside quoted = do
+  how ← maybe (change inside quoted)
+  lit "}"
+  pure how
+
+-- "${!" Ref ([@*] "}" / Op? "}"), which reads the Ref once
+unfoldable pub marked_param : Rules → Bool → Rule Param
+marked_param inside quoted = do
+  lit "${!"
+  whose ← ref inside
+  (λ how. p.Names whose how) <$> names_end </> (λ how. p.Indirect whose how) <$> change_end inside quoted
+
+-- ---- readers that were handed over
+
+-- one reads a Dollar inside double quotes and here-documents, and outside
+abbrev pub DollarsBelow : ℕ → (Bool → MutBor Seen → Type 0) → (Bool → MutBor Seen → Result Dollar LexErr → MutBor Seen → Type 0) → Type 0
+DollarsBelow room pre post = (quoted : Bool) → ReadsBelow (dollar_at quoted) room (pre quoted) (post quoted)

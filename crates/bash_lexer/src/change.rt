@@ -1,15 +1,17 @@
 //! The operators of a parameter (Bash Reference Manual, "Shell Parameter Expansion").
 
-ghost use Rattle.std.specs.Prelude.{◌+◌};
+ghost use Rattle.std.specs.Prelude.{◌+◌, Bool, true};
 ghost use Rattle.bash_cursor.specs.Reads.{Finds, Reads, ReadsBelow};
-ghost use Rattle.bash_lexer.specs.At.{piece_at, transform};
+ghost use Rattle.bash_lexer.specs.At.{back_at, dollar_at, piece_at, transform};
 ghost use Rattle.eb_grammar.specs.Grammar.{inside, rules_in};
 ghost use Rattle.eb_grammar.specs.Params as params;
+ghost use Rattle.eb_grammar.specs.Peg.{many};
 
-use crate::texts::{pattern, text};
-use bash_cursor::{Cursor, LexErr, case_op, or_back, replace_op, strip_op};
+use crate::slices::slice;
+use crate::texts::{pattern, quoted_text, text};
+use bash_cursor::{Cursor, LexErr, case_op, or_back, replace_op, strip_op, value_op};
 use eb_grammar::Class;
-use eb_syntax::{Op, PW, Piece};
+use eb_syntax::{Back, Dollar, Op, PW, Piece};
 use shared::Shared;
 use sqlite_items::Items as List;
 
@@ -94,4 +96,80 @@ pub fn transform(c: &mut Cursor<'_>) -> Option<u8>
             None
         }
     }
+}
+
+// The text after an operator of values.
+fn value_text<
+    P: Fn(&mut Cursor<'_>) -> Result<Piece, LexErr>,
+    D: Fn(bool, &mut Cursor<'_>) -> Result<Dollar, LexErr>,
+    B: Fn(&mut Cursor<'_>) -> Result<Back, LexErr>,
+>(
+    quoted: bool,
+    c: &mut Cursor<'_>,
+    piece: &P,
+    dollar: &D,
+    back: &B,
+) -> Result<Shared<List<PW>>, LexErr>
+    requires pieces { ReadsBelow piece_at (c.old.room + 1) (P.pre piece.now) (P.post piece.now) }
+    requires quotes { ReadsBelow (dollar_at true) (c.old.room + 1) (D.pre dollar.now true) (D.post dollar.now true) }
+    requires backs { ReadsBelow back_at (c.old.room + 1) (B.pre back.now) (B.post back.now) }
+    ensures { Reads (many (params.value_piece (rules_in (inside c.old.room)) quoted)) c.old result c.new }
+{
+    if quoted {
+        quoted_text(c, dollar, back)
+    } else {
+        text(c, piece)
+    }
+}
+
+// `:-` and its kin, and the text after it.
+#[tactic(auto, unfolding(eb_grammar::specs::Params::value_change))]
+fn value_change<
+    P: Fn(&mut Cursor<'_>) -> Result<Piece, LexErr>,
+    D: Fn(bool, &mut Cursor<'_>) -> Result<Dollar, LexErr>,
+    B: Fn(&mut Cursor<'_>) -> Result<Back, LexErr>,
+>(quoted: bool, c: &mut Cursor<'_>, piece: &P, dollar: &D, back: &B) -> Result<Op, LexErr>
+    requires pieces { ReadsBelow piece_at (c.old.room + 1) (P.pre piece.now) (P.post piece.now) }
+    requires quotes { ReadsBelow (dollar_at true) (c.old.room + 1) (D.pre dollar.now true) (D.post dollar.now true) }
+    requires backs { ReadsBelow back_at (c.old.room + 1) (B.pre back.now) (B.post back.now) }
+    ensures { Reads (params.value_change (rules_in (inside c.old.room)) quoted) c.old result c.new }
+{
+    let start = c.here();
+    let Some(which) = value_op(c) else {
+        return Err(LexErr::NoParse);
+    };
+    let found = or_back!(c, start, value_text(quoted, c, piece, dollar, back));
+    Ok(Op::Value(which, found))
+}
+
+/// The operator of a parameter, `quoted` inside double quotes and here-documents, with its text read by `piece`, `dollar`
+/// and `back`.
+#[tactic(auto, unfolding(eb_grammar::specs::Params::change))]
+pub fn change_of<
+    P: Fn(&mut Cursor<'_>) -> Result<Piece, LexErr>,
+    D: Fn(bool, &mut Cursor<'_>) -> Result<Dollar, LexErr>,
+    B: Fn(&mut Cursor<'_>) -> Result<Back, LexErr>,
+>(quoted: bool, c: &mut Cursor<'_>, piece: &P, dollar: &D, back: &B) -> Result<Op, LexErr>
+    requires pieces { ReadsBelow piece_at (c.old.room + 1) (P.pre piece.now) (P.post piece.now) }
+    requires dollars { ReadsBelow (dollar_at quoted) (c.old.room + 1) (D.pre dollar.now quoted) (D.post dollar.now quoted) }
+    requires quotes { ReadsBelow (dollar_at true) (c.old.room + 1) (D.pre dollar.now true) (D.post dollar.now true) }
+    requires backs { ReadsBelow back_at (c.old.room + 1) (B.pre back.now) (B.post back.now) }
+    ensures { Reads (params.change (rules_in (inside c.old.room)) quoted) c.old result c.new }
+{
+    if let Some(found) = attempt!(value_change(quoted, c, piece, dollar, back)) {
+        return Ok(found);
+    }
+    if let Some(found) = attempt!(strip_change(c, piece)) {
+        return Ok(found);
+    }
+    if let Some(found) = attempt!(replace_change(c, piece)) {
+        return Ok(found);
+    }
+    if let Some(found) = attempt!(case_change(c, piece)) {
+        return Ok(found);
+    }
+    if let Some(letter) = transform(c) {
+        return Ok(Op::Transform(letter));
+    }
+    slice(quoted, c, dollar, back)
 }

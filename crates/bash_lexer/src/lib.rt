@@ -56,17 +56,38 @@ macro_rules! repeat {
     }};
 }
 
+// What a rule reads inside the nesting that it opens with these bytes.
+macro_rules! nested {
+    ($cursor:expr, $begins:expr, $read:expr) => {{
+        if !$cursor.sees($begins) {
+            return Err(LexErr::NoParse);
+        }
+        let start = $cursor.here();
+        $cursor.enter()?;
+        let found = or_back!($cursor, start, $read);
+        $cursor.leave();
+        Ok(found)
+    }};
+}
+
+mod arith_texts;
+mod back;
 mod change;
+mod dollars;
 mod lists;
 mod params;
 mod pieces;
-mod subscript;
+mod quotes;
+mod slices;
+mod subscripts;
 mod texts;
 mod words;
 
-pub use change::{case_change, replace_change, strip_change, transform};
-pub use params::{length_param, reference};
-pub use pieces::{group, process};
-pub use subscript::subscript_of;
-pub use texts::{pattern, text};
+pub use arith_texts::{arith_of, arith_part_of};
+pub use back::back_of;
+pub use dollars::dollar_of;
+pub use params::param_of;
+pub use pieces::piece_of;
+pub use quotes::quoted_piece_of;
+pub use subscripts::subscript_of;
 pub use words::word_of;

@@ -1,15 +1,22 @@
 //! The pieces of words (Bash Reference Manual, "Quoting", "Process Substitution" and "Pattern Matching").
 
-ghost use Rattle.std.specs.Prelude.{◌+◌};
-ghost use Rattle.bash_cursor.specs.Reads.{Reads, ReadsBelow};
-ghost use Rattle.bash_lexer.specs.At.{body_at, group_at, piece_at, process_at};
+ghost use Rattle.std.specs.Prelude.{◌+◌, false, true};
+ghost use Rattle.bash_cursor.specs.Reads.{Finds, Reads, ReadsBelow};
+ghost use Rattle.bash_lexer.specs.At.{back_at, body_at, dollar_at, group_at, piece_at, process_at};
 ghost use Rattle.eb_grammar.specs.Grammar.{inside, rules_in};
 ghost use Rattle.eb_grammar.specs.Peg.{many};
 ghost use Rattle.eb_grammar.specs.Words as words;
 
 use crate::lists::{put, shared};
-use bash_cursor::{Cursor, LexErr, group_start, or_back, process_start};
-use eb_syntax::{Body, GroupPart, Piece};
+use crate::quotes::double_of;
+use bash_cursor::{
+    Cursor, LexErr, ansi_quoted, continuation, escaped, group_start, lone, or_back, process_start,
+    single_quoted,
+};
+use eb_bytes::Bytes;
+use eb_grammar::Class;
+use eb_syntax::{Back, Body, Dollar, GroupPart, Piece, Plain};
+use shared::Shared;
 use sqlite_items::Items as List;
 
 // `<(..)` or `>(..)`, with the commands read by `body`.
@@ -119,4 +126,106 @@ fn group_part<P: Fn(&mut Cursor<'_>) -> Result<Piece, LexErr>>(
     }
     c.literal(b"|")?;
     Ok(GroupPart::Bar)
+}
+
+// `'..'`, shared.
+fn shared_single(c: &mut Cursor<'_>) -> Result<Shared<Bytes>, LexErr>
+    ensures { Reads words.single_quoted c.old result c.new }
+{
+    let start = c.here();
+    let text = single_quoted(c)?;
+    Ok(or_back!(c, start, shared(c.alloc(), text)))
+}
+
+// `$'..'`, shared.
+fn shared_ansi(c: &mut Cursor<'_>) -> Result<Shared<Bytes>, LexErr>
+    ensures { Reads words.ansi_quoted c.old result c.new }
+{
+    let start = c.here();
+    let text = ansi_quoted(c)?;
+    Ok(or_back!(c, start, shared(c.alloc(), text)))
+}
+
+// A byte that stands for itself, or a dollar that begins nothing.
+#[tactic(auto, unfolding(eb_grammar::specs::Words::plain))]
+fn plain(c: &mut Cursor<'_>) -> Option<Plain>
+    ensures { Finds words.plain c.old result c.new }
+{
+    if let Some(byte) = c.byte(Class::Plain) {
+        return Some(Plain::Byte(byte));
+    }
+    if lone(c) {
+        return Some(Plain::Lone);
+    }
+    None
+}
+
+// A piece, told by all that may begin one.
+#[tactic(auto, unfolding(eb_grammar::specs::Words::piece))]
+fn other_piece<
+    P: Fn(&mut Cursor<'_>) -> Result<Piece, LexErr>,
+    O: Fn(&mut Cursor<'_>) -> Result<Body, LexErr>,
+    D: Fn(bool, &mut Cursor<'_>) -> Result<Dollar, LexErr>,
+    B: Fn(&mut Cursor<'_>) -> Result<Back, LexErr>,
+>(c: &mut Cursor<'_>, piece: &P, body: &O, dollar: &D, back: &B) -> Result<Piece, LexErr>
+    requires pieces { ReadsBelow piece_at c.old.room (P.pre piece.now) (P.post piece.now) }
+    requires bodies { ReadsBelow body_at c.old.room (O.pre body.now) (O.post body.now) }
+    requires dollars { ReadsBelow (dollar_at false) (c.old.room + 1) (D.pre dollar.now false) (D.post dollar.now false) }
+    requires quotes { ReadsBelow (dollar_at true) (c.old.room + 1) (D.pre dollar.now true) (D.post dollar.now true) }
+    requires backs { ReadsBelow back_at (c.old.room + 1) (B.pre back.now) (B.post back.now) }
+    ensures { Reads (piece_at c.old.room) c.old result c.new }
+{
+    if continuation(c) {
+        return Ok(Piece::Continuation);
+    }
+    if let Some(byte) = escaped(c) {
+        return Ok(Piece::Escaped(byte));
+    }
+    if let Some(text) = attempt!(shared_single(c)) {
+        return Ok(Piece::Single(text));
+    }
+    if let Some(text) = attempt!(shared_ansi(c)) {
+        return Ok(Piece::Ansi(text));
+    }
+    if let Some(found) = attempt!(double_of(c, dollar, back)) {
+        return Ok(found);
+    }
+    if let Some(found) = attempt!(dollar(false, c)) {
+        return Ok(Piece::Dollar(found));
+    }
+    if let Some(found) = attempt!(back(c)) {
+        return Ok(Piece::Back(found));
+    }
+    if let Some(found) = attempt!(process(c, body)) {
+        return Ok(found);
+    }
+    if let Some(found) = attempt!(group(c, piece)) {
+        return Ok(found);
+    }
+    match plain(c) {
+        Some(found) => Ok(Piece::Plain(found)),
+        None => Err(LexErr::NoParse),
+    }
+}
+
+/// A piece of a word. What stands in its nestings is read by `piece` and `body`, what is expanded by `dollar` and `back`.
+#[tactic(auto, using(crate::proofs::NameBytes::name_piece))]
+pub fn piece_of<
+    P: Fn(&mut Cursor<'_>) -> Result<Piece, LexErr>,
+    O: Fn(&mut Cursor<'_>) -> Result<Body, LexErr>,
+    D: Fn(bool, &mut Cursor<'_>) -> Result<Dollar, LexErr>,
+    B: Fn(&mut Cursor<'_>) -> Result<Back, LexErr>,
+>(c: &mut Cursor<'_>, piece: &P, body: &O, dollar: &D, back: &B) -> Result<Piece, LexErr>
+    requires pieces { ReadsBelow piece_at c.old.room (P.pre piece.now) (P.post piece.now) }
+    requires bodies { ReadsBelow body_at c.old.room (O.pre body.now) (O.post body.now) }
+    requires dollars { ReadsBelow (dollar_at false) (c.old.room + 1) (D.pre dollar.now false) (D.post dollar.now false) }
+    requires quotes { ReadsBelow (dollar_at true) (c.old.room + 1) (D.pre dollar.now true) (D.post dollar.now true) }
+    requires backs { ReadsBelow back_at (c.old.room + 1) (B.pre back.now) (B.post back.now) }
+    ensures { Reads (piece_at c.old.room) c.old result c.new }
+{
+    // Most bytes of a script are bytes of names, which begin nothing else.
+    if let Some(byte) = c.byte(Class::NamePart) {
+        return Ok(Piece::Plain(Plain::Byte(byte)));
+    }
+    other_piece(c, piece, body, dollar, back)
 }
