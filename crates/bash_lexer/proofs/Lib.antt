@@ -3,3 +3,4 @@ pub mod DollarForms
 pub mod BackTexts
 pub mod Parameters
 pub mod NameBytes
+pub mod DollarsBelow

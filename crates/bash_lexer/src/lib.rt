@@ -72,8 +72,10 @@ macro_rules! nested {
 
 mod arith_texts;
 mod back;
+mod calls;
 mod change;
 mod dollars;
+mod knot;
 mod lists;
 mod params;
 mod pieces;
@@ -83,11 +85,5 @@ mod subscripts;
 mod texts;
 mod words;
 
-pub use arith_texts::{arith_of, arith_part_of};
-pub use back::back_of;
-pub use dollars::dollar_of;
-pub use params::param_of;
-pub use pieces::piece_of;
-pub use quotes::quoted_piece_of;
-pub use subscripts::subscript_of;
-pub use words::word_of;
+pub use calls::{arith, arith_part, piece, quoted_piece, subscript, word};
+pub use knot::dollar;
