@@ -4,5 +4,5 @@ use Rattle.bash_lexer.proofs.knot.+dollars.Given as goal
 abbrev pub decreases-dollar : goal.decreases-dollar
 decreases-dollar g l = 2 * l.c.now.room
 
-abbrev pub decreases-dollar-inner : goal.decreases-dollar-inner
-decreases-dollar-inner g l = 2 * l.c.now.room + 1
+abbrev pub decreases-inner : goal.decreases-inner
+decreases-inner g l = 2 * l.c.now.room + 1

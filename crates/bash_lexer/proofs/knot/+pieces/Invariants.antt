@@ -4,5 +4,5 @@ use Rattle.bash_lexer.proofs.knot.+pieces.Given as goal
 abbrev pub decreases-piece_over : goal.decreases-piece_over
 decreases-piece_over g l = 2 * l.c.now.room
 
-abbrev pub decreases-piece_over-inner : goal.decreases-piece_over-inner
-decreases-piece_over-inner g l = 2 * l.c.now.room + 1
+abbrev pub decreases-inner : goal.decreases-inner
+decreases-inner g l = 2 * l.c.now.room + 1

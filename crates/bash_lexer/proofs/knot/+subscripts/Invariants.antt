@@ -4,5 +4,5 @@ use Rattle.bash_lexer.proofs.knot.+subscripts.Given as goal
 abbrev pub decreases-subscript_over : goal.decreases-subscript_over
 decreases-subscript_over g l = 2 * l.c.now.room
 
-abbrev pub decreases-subscript_over-inner : goal.decreases-subscript_over-inner
-decreases-subscript_over-inner g l = 2 * l.c.now.room + 1
+abbrev pub decreases-inner : goal.decreases-inner
+decreases-inner g l = 2 * l.c.now.room + 1

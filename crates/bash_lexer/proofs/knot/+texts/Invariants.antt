@@ -4,5 +4,5 @@ use Rattle.bash_lexer.proofs.knot.+texts.Given as goal
 abbrev pub decreases-arith_over : goal.decreases-arith_over
 decreases-arith_over g l = 2 * l.c.now.room
 
-abbrev pub decreases-arith_over-inner : goal.decreases-arith_over-inner
-decreases-arith_over-inner g l = 2 * l.c.now.room + 1
+abbrev pub decreases-inner : goal.decreases-inner
+decreases-inner g l = 2 * l.c.now.room + 1
