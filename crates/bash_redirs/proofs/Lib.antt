@@ -1,0 +1,5 @@
+pub mod Bodies
+pub mod DelimiterParts
+pub mod Enclosed
+pub mod HereTexts
+pub mod Redirs
