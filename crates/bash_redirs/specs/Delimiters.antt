@@ -7,8 +7,8 @@ use Rattle.eb_grammar.specs.declared.class.Class.TheVariants as class
 use Rattle.eb_grammar.specs.Classes.{byte}
 use Rattle.eb_grammar.specs.Grammar.{inside, rules_in}
 use Rattle.eb_grammar.specs.AnsiText.{ansi_text}
-use Rattle.eb_grammar.specs.HereDocuments.{quoted, unquoted_group, unquoted_quotes}
-use Rattle.eb_grammar.specs.Peg.{Rule, ◌>>=◌, ◌>>◌, ◌<$>◌, pure, lit, nest}
+use Rattle.eb_grammar.specs.HereDocuments.{bare, quoted, unquoted_group, unquoted_quotes}
+use Rattle.eb_grammar.specs.Peg.{Rule, ◌>>=◌, ◌>>◌, ◌<$>◌, pure, lit, nest, with_text}
 use Rattle.eb_grammar.specs.Rules.{Unquoted}
 use Rattle.eb_grammar.specs.Words.{ansi_quoted, escaped, group_start, single_quoted}
 use Rattle.eb_bytes.specs.Text.{Text}
@@ -46,3 +46,7 @@ single_told = (λ t. (p.Single t, quoted t)) <$> single_quoted
 -- "$'" ("\\" [^] / [^'\\])* "'", with its escapes replaced
 abbrev pub ansi_told : Rule (Piece × Unquoted)
 ansi_told = (λ t. (p.Ansi t, quoted (ansi_text t))) <$> ansi_quoted
+
+-- a piece that is the bytes that it takes
+abbrev pub bare_told : Rule Piece → Rule (Piece × Unquoted)
+bare_told p = (λ x. (x.0, bare x.1)) <$> with_text p

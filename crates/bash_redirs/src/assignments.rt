@@ -25,13 +25,7 @@ pub fn assign<
     S: Fn(&mut Cursor<'_>) -> Result<Sub, LexErr>,
     W: Fn(&mut Cursor<'_>) -> Result<Word, LexErr>,
     L: Fn(&mut Cursor<'_>) -> Result<(), LexErr>,
->(
-    c: &mut Cursor<'_>,
-    piece: &P,
-    subscript: &S,
-    word: &W,
-    lines: &L,
-) -> Result<Assign, LexErr>
+>(c: &mut Cursor<'_>, piece: &P, subscript: &S, word: &W, lines: &L) -> Result<Assign, LexErr>
     requires pieces { ReadsBelow piece_at (c.old.room + 1) (P.pre piece.now) (P.post piece.now) }
     requires subscripts { ReadsBelow subscript_at (c.old.room + 1) (S.pre subscript.now) (S.post subscript.now) }
     requires words { ReadsBelow word_at c.old.room (W.pre word.now) (W.post word.now) }

@@ -4,7 +4,7 @@
 ghost use Rattle.std.specs.Prelude.{◌+◌, ◌<◌};
 ghost use Rattle.bash_cursor.specs.Reads.{Finds, Reads, ReadsBelow};
 ghost use Rattle.bash_redirs.specs.At.{piece_at, quoted_at, unquoted_at};
-ghost use Rattle.bash_redirs.specs.Delimiters.{ansi_told, escaped_in_quotes, escaped_told, group_at, quotes_at, single_told};
+ghost use Rattle.bash_redirs.specs.Delimiters.{ansi_told, bare_told, escaped_in_quotes, escaped_told, group_at, quotes_at, single_told};
 ghost use Rattle.eb_grammar.specs.Grammar.{inside, rules_in};
 ghost use Rattle.eb_grammar.specs.HereDocuments as here;
 ghost use Rattle.eb_grammar.specs.Peg.{many, with_text};
@@ -41,19 +41,19 @@ macro_rules! repeat_pairs {
 
 // ---- the bytes that were taken
 
-// A piece, and the bytes that it took.
-fn piece_with_text<P: Fn(&mut Cursor<'_>) -> Result<Piece, LexErr>>(
+// A piece that is the bytes that it takes.
+fn bare_piece<P: Fn(&mut Cursor<'_>) -> Result<Piece, LexErr>>(
     c: &mut Cursor<'_>,
     piece: &P,
-) -> Result<(Piece, Bytes), LexErr>
+) -> Result<(Piece, Unquoted), LexErr>
     requires { ReadsBelow piece_at (c.old.room + 1) (P.pre piece.now) (P.post piece.now) }
-    ensures { Reads (with_text (piece_at c.old.room)) c.old result c.new }
+    ensures { Reads (bare_told (piece_at c.old.room)) c.old result c.new }
 {
     let start = c.here();
     let (text, from) = (c.rest(), c.place());
     let found = piece(c)?;
     let bytes = or_back!(c, start, between(c.alloc(), text, from, c.place()));
-    Ok((found, bytes))
+    Ok((found, Unquoted::bare(bytes)))
 }
 
 // A piece inside double quotes, and the bytes that it took.
@@ -284,12 +284,7 @@ fn unquoted_by<
     P: Fn(&mut Cursor<'_>) -> Result<Piece, LexErr>,
     Q: Fn(&mut Cursor<'_>) -> Result<QPiece, LexErr>,
     U: Fn(&mut Cursor<'_>) -> Result<(Piece, Unquoted), LexErr>,
->(
-    c: &mut Cursor<'_>,
-    piece: &P,
-    quoted: &Q,
-    unquoted: &U,
-) -> Result<(Piece, Unquoted), LexErr>
+>(c: &mut Cursor<'_>, piece: &P, quoted: &Q, unquoted: &U) -> Result<(Piece, Unquoted), LexErr>
     requires pieces { ReadsBelow piece_at (c.old.room + 1) (P.pre piece.now) (P.post piece.now) }
     requires in_quotes { ReadsBelow quoted_at c.old.room (Q.pre quoted.now) (Q.post quoted.now) }
     requires in_groups { ReadsBelow unquoted_at c.old.room (U.pre unquoted.now) (U.post unquoted.now) }
@@ -313,8 +308,7 @@ fn unquoted_by<
     if let Some(found) = attempt!(group(c, unquoted)) {
         return Ok(found);
     }
-    let (found, bytes) = piece_with_text(c, piece)?;
-    Ok((found, Unquoted::bare(bytes)))
+    bare_piece(c, piece)
 }
 
 // The same, with the pieces of its groups.
