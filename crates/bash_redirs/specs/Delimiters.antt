@@ -7,10 +7,10 @@ use Rattle.eb_grammar.specs.declared.class.Class.TheVariants as class
 use Rattle.eb_grammar.specs.Classes.{byte}
 use Rattle.eb_grammar.specs.Grammar.{inside, rules_in}
 use Rattle.eb_grammar.specs.AnsiText.{ansi_text}
-use Rattle.eb_grammar.specs.HereDocuments.{bare, quoted, unquoted_group, unquoted_quotes}
-use Rattle.eb_grammar.specs.Peg.{Rule, ◌>>=◌, ◌>>◌, ◌<$>◌, pure, lit, nest, with_text}
+use Rattle.eb_grammar.specs.HereDocuments.{bare, quoted, unquoted_double, unquoted_group, unquoted_quotes}
+use Rattle.eb_grammar.specs.Peg.{Rule, ◌>>=◌, ◌>>◌, ◌<$>◌, ◌</>◌, pure, lit, nest, with_text}
 use Rattle.eb_grammar.specs.Rules.{Unquoted}
-use Rattle.eb_grammar.specs.Words.{ansi_quoted, escaped, group_start, single_quoted}
+use Rattle.eb_grammar.specs.Words.{ansi_quoted, escaped, group_start, piece, single_quoted}
 use Rattle.eb_bytes.specs.Text.{Text}
 
 -- one after the other
@@ -50,3 +50,15 @@ ansi_told = (λ t. (p.Ansi t, quoted (ansi_text t))) <$> ansi_quoted
 -- a piece that is the bytes that it takes
 abbrev pub bare_told : Rule Piece → Rule (Piece × Unquoted)
 bare_told p = (λ x. (x.0, bare x.1)) <$> with_text p
+
+-- the alternatives of a mark's piece that open a nesting, and those after them
+unfoldable pub nested_told : ℕ → Rule (Piece × Unquoted)
+nested_told n = unquoted_double (inside n)
+    </> group_at n
+    </> bare_told (piece (inside n))
+
+-- the alternatives in single quotes, and those after them
+unfoldable pub quoted_told : ℕ → Rule (Piece × Unquoted)
+quoted_told n = single_told
+    </> ansi_told
+    </> nested_told n

@@ -4,7 +4,7 @@
 ghost use Rattle.std.specs.Prelude.{◌+◌, ◌<◌};
 ghost use Rattle.bash_cursor.specs.Reads.{Finds, Reads, ReadsBelow};
 ghost use Rattle.bash_redirs.specs.At.{piece_at, quoted_at, unquoted_at};
-ghost use Rattle.bash_redirs.specs.Delimiters.{ansi_told, bare_told, escaped_in_quotes, escaped_told, group_at, quotes_at, single_told};
+ghost use Rattle.bash_redirs.specs.Delimiters.{ansi_told, bare_told, escaped_in_quotes, escaped_told, group_at, nested_told, quoted_told, quotes_at, single_told};
 ghost use Rattle.eb_grammar.specs.Grammar.{inside, rules_in};
 ghost use Rattle.eb_grammar.specs.HereDocuments as here;
 ghost use Rattle.eb_grammar.specs.Peg.{many, with_text};
@@ -278,8 +278,50 @@ fn ansi_piece(c: &mut Cursor<'_>) -> Result<(Piece, Unquoted), LexErr>
     Ok(or_back!(c, start, ansi_of(c.alloc(), text)))
 }
 
+// A piece in double quotes, a group, or one that is the bytes that it takes.
+#[tactic(auto, unfolding(crate::specs::Delimiters::nested_told))]
+fn nested_piece<
+    P: Fn(&mut Cursor<'_>) -> Result<Piece, LexErr>,
+    Q: Fn(&mut Cursor<'_>) -> Result<QPiece, LexErr>,
+    U: Fn(&mut Cursor<'_>) -> Result<(Piece, Unquoted), LexErr>,
+>(c: &mut Cursor<'_>, piece: &P, quoted: &Q, unquoted: &U) -> Result<(Piece, Unquoted), LexErr>
+    requires pieces { ReadsBelow piece_at (c.old.room + 1) (P.pre piece.now) (P.post piece.now) }
+    requires in_quotes { ReadsBelow quoted_at c.old.room (Q.pre quoted.now) (Q.post quoted.now) }
+    requires in_groups { ReadsBelow unquoted_at c.old.room (U.pre unquoted.now) (U.post unquoted.now) }
+    ensures { Reads (nested_told c.old.room) c.old result c.new }
+{
+    if let Some(found) = attempt!(double(c, quoted)) {
+        return Ok(found);
+    }
+    if let Some(found) = attempt!(group(c, unquoted)) {
+        return Ok(found);
+    }
+    bare_piece(c, piece)
+}
+
+// A piece in single quotes, or one of these.
+#[tactic(auto, unfolding(crate::specs::Delimiters::quoted_told))]
+fn quoted_or_nested<
+    P: Fn(&mut Cursor<'_>) -> Result<Piece, LexErr>,
+    Q: Fn(&mut Cursor<'_>) -> Result<QPiece, LexErr>,
+    U: Fn(&mut Cursor<'_>) -> Result<(Piece, Unquoted), LexErr>,
+>(c: &mut Cursor<'_>, piece: &P, quoted: &Q, unquoted: &U) -> Result<(Piece, Unquoted), LexErr>
+    requires pieces { ReadsBelow piece_at (c.old.room + 1) (P.pre piece.now) (P.post piece.now) }
+    requires in_quotes { ReadsBelow quoted_at c.old.room (Q.pre quoted.now) (Q.post quoted.now) }
+    requires in_groups { ReadsBelow unquoted_at c.old.room (U.pre unquoted.now) (U.post unquoted.now) }
+    ensures { Reads (quoted_told c.old.room) c.old result c.new }
+{
+    if let Some(found) = attempt!(single_piece(c)) {
+        return Ok(found);
+    }
+    if let Some(found) = attempt!(ansi_piece(c)) {
+        return Ok(found);
+    }
+    nested_piece(c, piece, quoted, unquoted)
+}
+
 // A piece, with its bytes in the delimiter. The pieces of a group are read by `unquoted`.
-#[tactic(auto, unfolding(eb_grammar::specs::HereDocuments::unquoted_piece))]
+#[tactic(auto, using(crate::proofs::MarkPieces::unquoted_is))]
 fn unquoted_by<
     P: Fn(&mut Cursor<'_>) -> Result<Piece, LexErr>,
     Q: Fn(&mut Cursor<'_>) -> Result<QPiece, LexErr>,
@@ -296,19 +338,7 @@ fn unquoted_by<
     if let Some(found) = attempt!(escaped_piece(c)) {
         return Ok(found);
     }
-    if let Some(found) = attempt!(single_piece(c)) {
-        return Ok(found);
-    }
-    if let Some(found) = attempt!(ansi_piece(c)) {
-        return Ok(found);
-    }
-    if let Some(found) = attempt!(double(c, quoted)) {
-        return Ok(found);
-    }
-    if let Some(found) = attempt!(group(c, unquoted)) {
-        return Ok(found);
-    }
-    bare_piece(c, piece)
+    quoted_or_nested(c, piece, quoted, unquoted)
 }
 
 // The same, with the pieces of its groups.

@@ -83,7 +83,7 @@ fn strips(which: HereOp) -> bool
 }
 
 // A here-document, after the digits: its body is still to come.
-#[tactic(auto, unfolding(crate::specs::Parts::here_redir_with))]
+#[tactic(auto, using(crate::proofs::HereRedirs::here_none, crate::proofs::HereRedirs::here_stop, crate::proofs::HereRedirs::here_read))]
 fn here_redir<
     P: Fn(&mut Cursor<'_>) -> Result<Piece, LexErr>,
     Q: Fn(&mut Cursor<'_>) -> Result<QPiece, LexErr>,
