@@ -10,3 +10,4 @@ mod value;
 pub use numbers::{Numbers, compare_numbers};
 pub use operator::{FileRelation, Question, Relation, asks, is_before};
 pub use unary::text_test;
+pub use value::value_of;
