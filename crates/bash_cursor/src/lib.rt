@@ -20,6 +20,7 @@ macro_rules! or_back {
 mod class;
 mod cursor;
 mod error;
+mod failures;
 mod here_lines;
 mod marks;
 mod names;
@@ -32,6 +33,7 @@ mod trail;
 pub use class::is_in;
 pub use cursor::{Cursor, Place, Saved};
 pub use error::LexErr;
+pub use grammar_laws::Nesting;
 pub use here_lines::here_text;
 pub use marks::{HereMark, Marks};
 pub use names::{digits, function_name, lone, name};

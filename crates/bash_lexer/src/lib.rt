@@ -37,6 +37,25 @@ macro_rules! must {
     };
 }
 
+// What was read inside a nesting that begins at `start`. Where it has no reading, that is remembered, so that the
+// nesting isn't read in vain again.
+macro_rules! or_remember {
+    ($cursor:expr, $start:expr, $nesting:expr, $read:expr) => {
+        match $read {
+            Ok(read) => read,
+            Err(LexErr::NoParse) => {
+                $cursor.back_to($start);
+                $cursor.remember($nesting);
+                return Err(LexErr::NoParse);
+            }
+            Err(error) => {
+                $cursor.back_to($start);
+                return Err(error);
+            }
+        }
+    };
+}
+
 // All that a rule reads, turn by turn, until it has no reading.
 macro_rules! repeat {
     ($cursor:expr, $read:expr) => {{

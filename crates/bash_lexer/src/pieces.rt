@@ -8,7 +8,7 @@ ghost use Rattle.eb_grammar.specs.Peg.{many};
 ghost use Rattle.eb_grammar.specs.Words as words;
 
 use crate::lists::{put, shared};
-use bash_cursor::{Cursor, LexErr, group_start, or_back, process_start};
+use bash_cursor::{Cursor, LexErr, Nesting, group_start, or_back, process_start};
 use eb_syntax::{Body, GroupPart, Piece};
 use sqlite_items::Items as List;
 
@@ -65,9 +65,12 @@ pub fn group<P: Fn(&mut Cursor<'_>) -> Result<Piece, LexErr>>(
         return Err(LexErr::NoParse);
     };
     c.back_to(front);
+    if c.known(Nesting::Group) {
+        return Err(LexErr::NoParse);
+    }
     let start = c.here();
     c.enter()?;
-    let found = or_back!(c, start, group_inside(c, piece));
+    let found = or_remember!(c, start, Nesting::Group, group_inside(c, piece));
     c.leave();
     Ok(found)
 }
