@@ -1,6 +1,10 @@
 -- With more nestings each rule of a command says the same, unless it nested too deep; and so do all rules.
 use Rattle.std.proofs.Common.{ℕ, zero, suc, ◌≤◌, Bool, true, false, List, [], ◌∷◌, Option, None, arith}
 use Rattle.eb_bytes.specs.Text.{Text}
+use Rattle.eb_syntax.specs.declared.tree.Piece.TheVariants as v
+use Rattle.eb_grammar.specs.AnsiText.{ansi_text}
+use Rattle.eb_grammar.specs.declared.class.Class.TheVariants as class
+use Rattle.eb_grammar.specs.Classes.{run}
 use Rattle.eb_grammar.specs.Names as n
 use Rattle.eb_grammar.specs.Words as w
 use Rattle.eb_grammar.specs.HereDocuments as h
@@ -9,10 +13,10 @@ use Rattle.eb_grammar.specs.Conditions as c
 use Rattle.eb_grammar.specs.Compounds as x
 use Rattle.eb_grammar.specs.Commands as m
 use Rattle.eb_grammar.specs.Grammar.{inside, rules_in}
-use Rattle.eb_grammar.specs.Peg.{HereMark, ◌>>◌, here, many, lit}
+use Rattle.eb_grammar.specs.Peg.{HereMark, ◌>>◌, ◌<$>◌, at, here, many, lit, not_at, pure, single, stands}
 use Rattle.eb_grammar.specs.Rules.{Rules}
 use Rattle.grammar_laws.specs.Refined.{Refines, RefinesRules, RefinesBelow, MoreRoomRefines}
-use Rattle.grammar_laws.proofs.Refine.{same-r, bind-r, map-r, or-r, maybe-r, gather-r, many-r, some-r, followed-r, with-r, within-r, own-r, nest-r}
+use Rattle.grammar_laws.proofs.Refine.{same-r, bind-r, map-r, or-r, maybe-r, stands-r, not-r, at-r, gather-r, many-r, some-r, followed-r, with-r, within-r, own-r, nest-r}
 use Rattle.grammar_laws.proofs.RefineWords.{subscript-r, backquoted-r, dollar-r, double_quoted-r, quoted_piece-r, piece-r, word-r, arith-r, arith_part-r}
 
 -- ---- here-documents
@@ -37,16 +41,17 @@ module _ (i i' : Rules) (k : RefinesRules i i') where
 module _ (o o' : Option Rules) (b : RefinesBelow o o') where
   unquoted_double-r : Refines (h.unquoted_double o) (h.unquoted_double o')
   unfolding h.unquoted_double
-  unquoted_double-r = bind-r (stands-r same-r) (λ translated. bind-r (nest-r o o' _ _ b unquoted_quotes-r) (λ found. same-r))
+  unquoted_double-r = bind-r (same-r {p = stands (lit "$")}) (λ translated. bind-r (nest-r o o' _ _ b unquoted_quotes-r) (λ found. same-r))
 
   unquoted_piece-r : Refines (h.unquoted_piece o) (h.unquoted_piece o')
   unfolding h.unquoted_piece
-  unquoted_piece-r = or-r same-r (or-r same-r (or-r same-r (or-r same-r (or-r unquoted_double-r
-      (or-r (nest-r o o' _ _ b unquoted_group-r) (map-r _ (with-r (piece-r o o' b))))))))
+  unquoted_piece-r = or-r (same-r {p = w.continuation >> pure (v.Continuation, h.bare [])}) (or-r (same-r {p = (λ b. (v.Escaped b, h.quoted (b ∷ []))) <$> w.escaped})
+      (or-r (same-r {p = (λ t. (v.Single t, h.quoted t)) <$> w.single_quoted}) (or-r (same-r {p = (λ t. (v.Ansi t, h.quoted (ansi_text t))) <$> w.ansi_quoted}) (or-r unquoted_double-r
+      (or-r (nest-r o o' w.group_start h.unquoted_group b unquoted_group-r) (map-r (λ x. (x.0, h.bare x.1)) (with-r (piece-r o o' b))))))))
 
   delimiter_word-r : Refines (h.delimiter_word o) (h.delimiter_word o')
   unfolding h.delimiter_word
-  delimiter_word-r = bind-r (not-r same-r) (λ _. bind-r (some-r unquoted_piece-r) (λ found. same-r))
+  delimiter_word-r = bind-r (same-r {p = not_at (lit "#")}) (λ _. bind-r (some-r unquoted_piece-r) (λ found. same-r))
 
   here_piece-r : Refines (h.here_piece o) (h.here_piece o')
   unfolding h.here_piece
@@ -71,7 +76,7 @@ module _ (o o' : Option Rules) (b : RefinesBelow o o') where
 
   lines-r : Refines (h.lines o) (h.lines o')
   unfolding h.lines
-  lines-r = bind-r (many-r (or-r same-r (or-r same-r newline-r))) (λ _. same-r)
+  lines-r = bind-r (many-r (or-r (same-r {p = n.blank >> pure tt}) (or-r (same-r {p = n.comment >> pure tt}) newline-r))) (λ _. same-r)
 
 -- ---- redirections and assignments
 
@@ -82,20 +87,20 @@ array-r i i' k = bind-r same-r (λ _. bind-r k.lines (λ _. bind-r (many-r (foll
 module _ (o o' : Option Rules) (b : RefinesBelow o o') where
   word_redir-r : Refines (r.word_redir o) (r.word_redir o')
   unfolding r.word_redir
-  word_redir-r = bind-r same-r (λ number. bind-r same-r (λ which. bind-r same-r (λ _. bind-r (word-r o o' b) (λ target. same-r))))
+  word_redir-r = bind-r (same-r {p = run class.Digit}) (λ number. bind-r (same-r {p = r.word_op}) (λ which. bind-r (same-r {p = n.blanks}) (λ _. bind-r (word-r o o' b) (λ target. same-r))))
 
   here_redir-r : Refines (r.here_redir o) (r.here_redir o')
   unfolding r.here_redir
-  here_redir-r = bind-r same-r (λ number. bind-r same-r (λ which. bind-r same-r (λ _. bind-r (same-r {p = here}) (λ start.
+  here_redir-r = bind-r (same-r {p = run class.Digit}) (λ number. bind-r (same-r {p = r.here_op}) (λ which. bind-r (same-r {p = n.blanks}) (λ _. bind-r (same-r {p = here}) (λ start.
       bind-r (delimiter_word-r o o' b) (λ told. same-r)))))
 
   file_redir-r : Refines (r.file_redir o) (r.file_redir o')
   unfolding r.file_redir
-  file_redir-r = bind-r same-r (λ number. bind-r same-r (λ which. bind-r (not-r same-r) (λ _. bind-r same-r (λ _. bind-r (word-r o o' b) (λ target. same-r)))))
+  file_redir-r = bind-r (same-r {p = run class.Digit}) (λ number. bind-r (same-r {p = r.file_op}) (λ which. bind-r (same-r {p = not_at (lit "(")}) (λ _. bind-r (same-r {p = n.blanks}) (λ _. bind-r (word-r o o' b) (λ target. same-r)))))
 
   both_redir-r : Refines (r.both_redir o) (r.both_redir o')
   unfolding r.both_redir
-  both_redir-r = bind-r same-r (λ which. bind-r same-r (λ _. bind-r (word-r o o' b) (λ target. same-r)))
+  both_redir-r = bind-r (same-r {p = r.both_op}) (λ which. bind-r (same-r {p = n.blanks}) (λ _. bind-r (word-r o o' b) (λ target. same-r)))
 
   redir-r : Refines (r.redir o) (r.redir o')
   unfolding r.redir
@@ -107,7 +112,7 @@ module _ (o o' : Option Rules) (b : RefinesBelow o o') where
 
   assign-r : Refines (r.assign o) (r.assign o')
   unfolding r.assign
-  assign-r = bind-r same-r (λ called. bind-r (maybe-r (subscript-r o o' b)) (λ index. bind-r (stands-r same-r) (λ append. bind-r same-r (λ _. bind-r assigned-r (λ value. same-r)))))
+  assign-r = bind-r (same-r {p = n.name}) (λ called. bind-r (maybe-r (subscript-r o o' b)) (λ index. bind-r (same-r {p = stands (lit "+")}) (λ append. bind-r (same-r {p = lit "="}) (λ _. bind-r assigned-r (λ value. same-r)))))
 
 -- ---- conditions
 
@@ -126,7 +131,7 @@ module _ (i i' : Rules) (k : RefinesRules i i') where
 
   negation-r : Refines (c.negation i) (c.negation i')
   unfolding c.negation
-  negation-r = bind-r same-r (λ _. bind-r (at-r same-r) (λ _. bind-r k.lines (λ _. k.not)))
+  negation-r = bind-r (same-r {p = lit "!"}) (λ _. bind-r (same-r {p = at n.blank}) (λ _. bind-r k.lines (λ _. k.not)))
 
 module _ (o o' : Option Rules) (b : RefinesBelow o o') where
   regex_part-r : Refines (c.regex_part o) (c.regex_part o')
@@ -139,19 +144,19 @@ module _ (o o' : Option Rules) (b : RefinesBelow o o') where
 
   condition_word-r : Refines (c.condition_word o) (c.condition_word o')
   unfolding c.condition_word
-  condition_word-r = bind-r (not-r same-r) (λ _. word-r o o' b)
+  condition_word-r = bind-r (same-r {p = not_at (n.kw "]]")}) (λ _. word-r o o' b)
 
   unary_test-r : Refines (c.unary_test o) (c.unary_test o')
   unfolding c.unary_test
-  unary_test-r = bind-r same-r (λ which. bind-r same-r (λ _. bind-r (not-r same-r) (λ _. bind-r condition_word-r (λ operand. same-r))))
+  unary_test-r = bind-r (same-r {p = c.unary_op}) (λ which. bind-r (same-r {p = n.some_blanks}) (λ _. bind-r (same-r {p = not_at c.binary_op}) (λ _. bind-r condition_word-r (λ operand. same-r))))
 
   matches-r : Refines (c.matches o) (c.matches o')
   unfolding c.matches
-  matches-r = bind-r same-r (λ _. bind-r same-r (λ _. bind-r same-r (λ _. bind-r regex-r (λ found. same-r))))
+  matches-r = bind-r (same-r {p = n.some_blanks}) (λ _. bind-r (same-r {p = lit "=~"}) (λ _. bind-r (same-r {p = n.some_blanks}) (λ _. bind-r regex-r (λ found. same-r))))
 
   compared-r : Refines (c.compared o) (c.compared o')
   unfolding c.compared
-  compared-r = bind-r same-r (λ _. bind-r same-r (λ which. bind-r same-r (λ _. bind-r condition_word-r (λ right. same-r))))
+  compared-r = bind-r (same-r {p = n.some_blanks}) (λ _. bind-r (same-r {p = c.binary_op}) (λ which. bind-r (same-r {p = n.some_blanks}) (λ _. bind-r condition_word-r (λ right. same-r))))
 
   word_test-r : Refines (c.word_test o) (c.word_test o')
   unfolding c.word_test
@@ -195,8 +200,9 @@ module _ (i i' : Rules) (k : RefinesRules i i') where
 
   clause-r : Refines (x.clause i) (x.clause i')
   unfolding x.clause
-  clause-r = bind-r (not-r same-r) (λ _. bind-r (stands-r same-r) (λ _. bind-r k.word (λ first. bind-r (many-r (bind-r same-r (λ _. k.word))) (λ others.
-      bind-r same-r (λ _. bind-r same-r (λ _. bind-r k.items (λ items. bind-r same-r (λ stop. bind-r k.lines (λ _. same-r)))))))))
+  clause-r = bind-r (same-r {p = not_at (n.kw "esac")}) (λ _. bind-r (same-r {p = stands (lit "(" >> n.blanks)}) (λ _. bind-r k.word (λ first.
+      bind-r (many-r (bind-r (same-r {p = n.blanks >> lit "|" >> n.blanks}) (λ _. k.word))) (λ others. bind-r (same-r {p = n.blanks}) (λ _. bind-r (same-r {p = lit ")"}) (λ _.
+      bind-r k.items (λ items. bind-r (same-r {p = x.clause_end}) (λ stop. bind-r k.lines (λ _. same-r)))))))))
 
   braces-r : Refines (x.braces i) (x.braces i')
   unfolding x.braces
@@ -208,12 +214,12 @@ module _ (i i' : Rules) (k : RefinesRules i i') where
 
   subshell-r : Refines (x.subshell i) (x.subshell i')
   unfolding x.subshell
-  subshell-r = bind-r same-r (λ _. bind-r (not-r same-r) (λ _. bind-r k.body (λ body. same-r)))
+  subshell-r = bind-r (same-r {p = lit "("}) (λ _. bind-r (same-r {p = not_at (lit "(")}) (λ _. bind-r k.body (λ body. same-r)))
 
   if_command-r : Refines (x.if_command i) (x.if_command i')
   unfolding x.if_command
   if_command-r = bind-r same-r (λ _. bind-r k.body (λ test. bind-r same-r (λ _. bind-r k.body (λ body. bind-r (many-r elif-r) (λ elifs.
-      bind-r (maybe-r (bind-r same-r (λ _. k.body))) (λ other. same-r))))))
+      bind-r (maybe-r (bind-r (same-r {p = n.kw "else"}) (λ _. k.body))) (λ other. same-r))))))
 
   while_loop-r : Refines (x.while_loop i) (x.while_loop i')
   unfolding x.while_loop
@@ -225,9 +231,9 @@ module _ (i i' : Rules) (k : RefinesRules i i') where
 
   arith_for-r : Refines (x.arith_for i) (x.arith_for i')
   unfolding x.arith_for
-  arith_for-r = bind-r same-r (λ _. bind-r same-r (λ _. bind-r same-r (λ _. bind-r k.arith_part (λ first. bind-r same-r (λ _. bind-r k.arith_part (λ test.
-      bind-r same-r (λ _. bind-r k.arith_part (λ next. bind-r same-r (λ _. bind-r same-r (λ _. bind-r (stands-r same-r) (λ _.
-      bind-r k.lines (λ _. bind-r do_done-r (λ body. same-r)))))))))))))
+  arith_for-r = bind-r (same-r {p = n.kw "for"}) (λ _. bind-r (same-r {p = n.blanks}) (λ _. bind-r (same-r {p = lit "(("}) (λ _. bind-r k.arith_part (λ first.
+      bind-r (same-r {p = lit ";"}) (λ _. bind-r k.arith_part (λ test. bind-r (same-r {p = lit ";"}) (λ _. bind-r k.arith_part (λ next. bind-r (same-r {p = lit "))"}) (λ _.
+      bind-r (same-r {p = n.blanks}) (λ _. bind-r (same-r {p = stands (lit ";")}) (λ _. bind-r k.lines (λ _. bind-r do_done-r (λ body. same-r)))))))))))))
 
   for_loop-r : Refines (x.for_loop i) (x.for_loop i')
   unfolding x.for_loop
@@ -239,8 +245,8 @@ module _ (i i' : Rules) (k : RefinesRules i i') where
 
   case_command-r : Refines (x.case_command i) (x.case_command i')
   unfolding x.case_command
-  case_command-r = bind-r same-r (λ _. bind-r same-r (λ _. bind-r k.word (λ word. bind-r k.lines (λ _. bind-r same-r (λ _. bind-r k.lines (λ _.
-      bind-r (many-r clause-r) (λ clauses. same-r)))))))
+  case_command-r = bind-r (same-r {p = n.kw "case"}) (λ _. bind-r (same-r {p = n.blanks}) (λ _. bind-r k.word (λ word. bind-r k.lines (λ _. bind-r (same-r {p = n.kw "in"}) (λ _.
+      bind-r k.lines (λ _. bind-r (many-r clause-r) (λ clauses. same-r)))))))
 
   test_command-r : Refines (x.test_command i) (x.test_command i')
   unfolding x.test_command
@@ -275,7 +281,7 @@ module _ (o o' : Option Rules) (b : RefinesBelow o o') where
 
   tail-r : Refines (m.tail o) (m.tail o')
   unfolding m.tail
-  tail-r = bind-r (not-r same-r) (λ _. bind-r (not-r same-r) (λ _. bind-r (word-r o o' b) (λ first. bind-r (many-r tail_part-r) (λ others. same-r))))
+  tail-r = bind-r (same-r {p = not_at n.reserved}) (λ _. bind-r (same-r {p = not_at (n.name >> lit "[")}) (λ _. bind-r (word-r o o' b) (λ first. bind-r (many-r tail_part-r) (λ others. same-r))))
 
   prefixed-r : Refines (m.prefixed o) (m.prefixed o')
   unfolding m.prefixed
@@ -295,13 +301,13 @@ module _ (o o' : Option Rules) (b : RefinesBelow o o') where
 
   named_function-r : Refines (m.named_function o) (m.named_function o')
   unfolding m.named_function
-  named_function-r = bind-r (same-r {p = n.function_name}) (λ called. bind-r same-r (λ _. bind-r same-r (λ _. bind-r same-r (λ _. bind-r same-r (λ _.
+  named_function-r = bind-r (same-r {p = n.function_name}) (λ called. bind-r (same-r {p = n.blanks}) (λ _. bind-r (same-r {p = lit "("}) (λ _. bind-r (same-r {p = n.blanks}) (λ _. bind-r (same-r {p = lit ")"}) (λ _.
       bind-r (lines-r o o' b) (λ _. bind-r compound_command-r (λ body. same-r)))))))
 
   keyword_function-r : Refines (m.keyword_function o) (m.keyword_function o')
   unfolding m.keyword_function
-  keyword_function-r = bind-r same-r (λ _. bind-r same-r (λ _. bind-r (same-r {p = n.function_name}) (λ called. bind-r (stands-r same-r) (λ _.
-      bind-r (lines-r o o' b) (λ _. bind-r compound_command-r (λ body. same-r))))))
+  keyword_function-r = bind-r (same-r {p = n.kw "function"}) (λ _. bind-r (same-r {p = n.some_blanks}) (λ _. bind-r (same-r {p = n.function_name}) (λ called.
+      bind-r (same-r {p = stands (n.blanks >> lit "(" >> n.blanks >> lit ")")}) (λ _. bind-r (lines-r o o' b) (λ _. bind-r compound_command-r (λ body. same-r))))))
 
   function-r : Refines (m.function o) (m.function o')
   unfolding m.function
@@ -309,7 +315,7 @@ module _ (o o' : Option Rules) (b : RefinesBelow o o') where
 
   coproc-r : Refines (m.coproc o) (m.coproc o')
   unfolding m.coproc
-  coproc-r = bind-r same-r (λ _. bind-r same-r (λ _. bind-r (or-r (map-r _ compound-r) (map-r _ simple-r)) (λ what. same-r)))
+  coproc-r = bind-r (same-r {p = n.kw "coproc"}) (λ _. bind-r (same-r {p = n.blanks}) (λ _. bind-r (or-r (map-r _ compound-r) (map-r _ simple-r)) (λ what. same-r)))
 
   command-r : Refines (m.command o) (m.command o')
   unfolding m.command
@@ -317,15 +323,15 @@ module _ (o o' : Option Rules) (b : RefinesBelow o o') where
 
   piped-r : Refines (m.piped o) (m.piped o')
   unfolding m.piped
-  piped-r = bind-r same-r (λ _. bind-r same-r (λ how. bind-r (lines-r o o' b) (λ _. bind-r command-r (λ what. same-r))))
+  piped-r = bind-r (same-r {p = n.blanks}) (λ _. bind-r (same-r {p = m.bar}) (λ how. bind-r (lines-r o o' b) (λ _. bind-r command-r (λ what. same-r))))
 
   pipe-r : Refines (m.pipe o) (m.pipe o')
   unfolding m.pipe
-  pipe-r = bind-r same-r (λ marks. bind-r command-r (λ first. bind-r (many-r piped-r) (λ others. same-r)))
+  pipe-r = bind-r (same-r {p = many m.pipe_mark}) (λ marks. bind-r command-r (λ first. bind-r (many-r piped-r) (λ others. same-r)))
 
   joined-r : Refines (m.joined o) (m.joined o')
   unfolding m.joined
-  joined-r = bind-r same-r (λ _. bind-r same-r (λ how. bind-r (lines-r o o' b) (λ _. bind-r pipe-r (λ what. same-r))))
+  joined-r = bind-r (same-r {p = n.blanks}) (λ _. bind-r (same-r {p = m.junction}) (λ how. bind-r (lines-r o o' b) (λ _. bind-r pipe-r (λ what. same-r))))
 
   and_or-r : Refines (m.and_or o) (m.and_or o')
   unfolding m.and_or
@@ -337,7 +343,7 @@ module _ (o o' : Option Rules) (b : RefinesBelow o o') where
 
   pub turn-r : Refines (m.turn o) (m.turn o')
   unfolding m.turn
-  turn-r = or-r same-r (or-r (bind-r (newline-r o o' b) (λ _. same-r)) (or-r same-r (map-r _ item-r)))
+  turn-r = or-r (same-r {p = n.blank >> pure []}) (or-r (bind-r (newline-r o o' b) (λ _. same-r {p = pure []})) (or-r (same-r {p = n.comment >> pure []}) (map-r single item-r)))
 
   pub items-r : Refines (m.items o) (m.items o')
   unfolding m.items

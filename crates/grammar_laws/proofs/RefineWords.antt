@@ -1,12 +1,13 @@
 -- With more nestings each rule of a word says the same, unless it nested too deep.
 use Rattle.std.proofs.Common.{Bool, true, false, Option}
+use Rattle.eb_syntax.specs.declared.tree.Piece.TheVariants as v
 use Rattle.eb_grammar.specs.Params as m
 use Rattle.eb_grammar.specs.Words as w
 use Rattle.eb_grammar.specs.ArithText as a
-use Rattle.eb_grammar.specs.Peg.{here}
+use Rattle.eb_grammar.specs.Peg.{◌>>◌, ◌<$>◌, here, lit, not_at, pure, stands}
 use Rattle.eb_grammar.specs.Rules.{Rules}
 use Rattle.grammar_laws.specs.Refined.{Refines, RefinesRules, RefinesBelow}
-use Rattle.grammar_laws.proofs.Refine.{same-r, bind-r, map-r, or-r, maybe-r, gather-r, many-r, some-r, within-r, nest-r}
+use Rattle.grammar_laws.proofs.Refine.{same-r, bind-r, map-r, or-r, maybe-r, stands-r, not-r, at-r, gather-r, many-r, some-r, within-r, nest-r}
 
 -- ---- parameters
 
@@ -108,7 +109,7 @@ module _ (r r' : Rules) (k : RefinesRules r r') where
 
   pub substitution-r : Refines (w.substitution r) (w.substitution r')
   unfolding w.substitution
-  substitution-r = bind-r same-r (λ _. bind-r (not-r same-r) (λ _. bind-r k.items (λ found. same-r)))
+  substitution-r = bind-r (same-r {p = lit "$("}) (λ _. bind-r (same-r {p = not_at (lit "(")}) (λ _. bind-r k.items (λ found. same-r)))
 
   quotes-r : Refines (w.quotes r) (w.quotes r')
   unfolding w.quotes
@@ -158,16 +159,17 @@ module _ (o o' : Option Rules) (b : RefinesBelow o o') where
 
   double-r : Refines (w.double o) (w.double o')
   unfolding w.double
-  double-r = bind-r (stands-r same-r) (λ translated. bind-r double_quoted-r (λ pieces. same-r))
+  double-r = bind-r (same-r {p = stands (lit "$")}) (λ translated. bind-r double_quoted-r (λ pieces. same-r))
 
   pub piece-r : Refines (w.piece o) (w.piece o')
   unfolding w.piece
-  piece-r = or-r same-r (or-r same-r (or-r same-r (or-r same-r (or-r double-r
-      (or-r (map-r _ (dollar-r false)) (or-r (map-r _ backquoted-r) (or-r (nest-r o o' _ _ b process-r) (or-r (nest-r o o' _ _ b group-r) same-r))))))))
+  piece-r = or-r (same-r {p = w.continuation >> pure v.Continuation}) (or-r (same-r {p = v.Escaped <$> w.escaped}) (or-r (same-r {p = v.Single <$> w.single_quoted}) (or-r (same-r {p = v.Ansi <$> w.ansi_quoted})
+      (or-r double-r (or-r (map-r v.Dollar (dollar-r false)) (or-r (map-r v.Back backquoted-r) (or-r (nest-r o o' w.process_start w.process b process-r)
+      (or-r (nest-r o o' w.group_start w.group b group-r) (same-r {p = v.Plain <$> w.plain})))))))))
 
   pub word-r : Refines (w.word o) (w.word o')
   unfolding w.word
-  word-r = bind-r (not-r same-r) (λ _. bind-r (some-r piece-r) (λ found. same-r))
+  word-r = bind-r (same-r {p = not_at (lit "#")}) (λ _. bind-r (some-r piece-r) (λ found. same-r))
 
   -- ---- arithmetic
 
