@@ -33,7 +33,6 @@ mod trail;
 pub use class::is_in;
 pub use cursor::{Cursor, Place, Saved};
 pub use error::LexErr;
-pub use grammar_laws::Nesting;
 pub use here_lines::here_text;
 pub use marks::{HereMark, Marks};
 pub use names::{digits, function_name, lone, name};

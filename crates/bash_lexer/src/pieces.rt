@@ -8,8 +8,9 @@ ghost use Rattle.eb_grammar.specs.Peg.{many};
 ghost use Rattle.eb_grammar.specs.Words as words;
 
 use crate::lists::{put, shared};
-use bash_cursor::{Cursor, LexErr, Nesting, group_start, or_back, process_start};
+use bash_cursor::{Cursor, LexErr, group_start, or_back, process_start};
 use eb_syntax::{Body, GroupPart, Piece};
+use grammar_laws::Nesting;
 use sqlite_items::Items as List;
 
 // `<(..)` or `>(..)`, with the commands read by `body`.
