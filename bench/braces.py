@@ -17,6 +17,10 @@ LIMIT = (SIZE, 0.5)
 def requests(size):
     """The name of each case, its request, and the answer"""
     yield "{1..65536}", line(b"{1..65536}"), answer(b"%d" % number for number in range(1, 65537))
+    yield "{1..65537}", line(b"{1..65537}"), b"many"
+    sides = itertools.product(range(1, 257), repeat=2)
+    yield "@({1..256}|{1..256})", line(b"@({1..256}|{1..256})"), answer(b"@(%d|%d)" % side for side in sides)
+    yield "@({1..256}|{0..256})", line(b"@({1..256}|{0..256})"), b"many"
     pairs = map(bytes, itertools.product(b"ab", repeat=16))
     yield "16 times {a,b}", line(b"{a,b}" * 16), answer(pairs)
     yield "{1..9223372036854775807}", line(b"{1..9223372036854775807}"), b"many"
@@ -24,7 +28,7 @@ def requests(size):
     yield least_to_greatest.decode(), line(least_to_greatest), b"many"
     yield "60 times {a,b}", line(b"{a,b}" * 60), b"many"
     yield "60 nested pairs", line(b"{1..9}{a," * 60 + b"b" + b"}" * 60), b"many"
-    for text in (b"a", b"{", b"}", b",", b"{}", b"{a", b",}"):
+    for text in (b"a", b"{", b"}", b",", b"{}", b"{a", b",}", b"@(a|b)"):
         whole = text * (size // len(text))
         yield f"{text.decode()} repeated", line(whole), answer([whole])
 

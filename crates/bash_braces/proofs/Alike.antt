@@ -1,7 +1,7 @@
 -- Two kinds of values that are alike: what is made of a text is then alike too.
 use Rattle.std.proofs.Common.{◌≡◌, ℕ, List, [], ◌∷◌, map, refl, sym, ap, ◌∙◌}
 use Rattle.std.specs.Prelude.{Option, Some, None}
-use Rattle.eb_syntax.specs.declared.tree.Piece.{Piece}
+use Rattle.bash_braces.specs.declared.token.Token.{Token}
 use Rattle.bash_braces.specs.declared.reading.Level.{Level}
 use Rattle.bash_braces.specs.declared.reading.Reading.{Reading}
 use Rattle.bash_braces.specs.declared.role.Role.{Role}
@@ -35,7 +35,7 @@ module _ {P Q V W : Type 0} (v : Values P V) (w : Values Q W) (f : P → Q) (h :
   pairs first [] (Some s) after = ap (λ (x : W). w.follow x (h after)) (sym (alike.run s)) ∙ sym (alike.follow (v.run s) after)
   pairs first [] None after = ap (λ (x : W). w.byte 123 (w.follow (h first) x)) (sym (alike.byte 125 after)) ∙ ap (λ (x : W). w.byte 123 x) (sym (alike.follow first (v.byte 125 after))) ∙ sym (alike.byte 123 (v.follow first (v.byte 125 after)))
 
-  takes : (ro : Role) (p : P) (ps : List Piece) (after : Reading V) → by_role w ro (f p) ps (reading_of after) ≡ reading_of (by_role v ro p ps after)
+  takes : (ro : Role) (p : P) (ps : List Token) (after : Reading V) → by_role w ro (f p) ps (reading_of after) ≡ reading_of (by_role v ro p ps after)
   takes Closes p ps after = rw alike.nothing refl
   takes Stands p ps after = rw (alike.put p after.here.first) refl
   takes Divides p ps after = divides after.here after.outer
@@ -49,11 +49,11 @@ module _ {P Q V W : Type 0} (v : Values P V) (w : Values Q W) (f : P → Q) (h :
       opens here [] = rw (alike.put p here.first) refl
       opens here (next ∷ outer) = rw (sym (pairs here.first here.others (sequence_of (enclosed ps)) next.first)) refl
 
-  maps : (of : Q → Piece) (ps : List P) → map of (map f ps) ≡ map (λ (p : P). of (f p)) ps
+  maps : (of : Q → Token) (ps : List P) → map of (map f ps) ≡ map (λ (p : P). of (f p)) ps
   maps of [] = refl
-  maps of (p ∷ ps) = ap (λ (rest : List Piece). of (f p) ∷ rest) (maps of ps)
+  maps of (p ∷ ps) = ap (λ (rest : List Token). of (f p) ∷ rest) (maps of ps)
 
-  reads : (of : Q → Piece) (ps : List P) → read w of (map f ps) ≡ reading_of (read v (λ p. of (f p)) ps)
+  reads : (of : Q → Token) (ps : List P) → read w of (map f ps) ≡ reading_of (read v (λ p. of (f p)) ps)
   reads of [] = rw alike.nothing refl
   reads of (p ∷ ps) = rw (maps of ps, reads of ps) (takes (role (of (f p))) p (map (λ (q : P). of (f q)) ps) (read v (λ q. of (f q)) ps))
 
@@ -75,5 +75,5 @@ module _ {P Q V W : Type 0} (v : Values P V) (w : Values Q W) (f : P → Q) (h :
       let rest : V = after_closings v v.nothing r.outer in
       ap (λ (x : W). w.follow x (after_closings w w.nothing (map level_of r.outer))) (levels r.here) ∙ ap (λ (x : W). w.follow (h (plain_level v r.here)) (after_closings w x (map level_of r.outer))) (sym alike.nothing) ∙ ap (λ (x : W). w.follow (h (plain_level v r.here)) x) (closings v.nothing r.outer) ∙ sym (alike.follow (plain_level v r.here) rest)
 
-  pub makes : (of : Q → Piece) (ps : List P) → made w of (map f ps) ≡ h (made v (λ p. of (f p)) ps)
+  pub makes : (of : Q → Token) (ps : List P) → made w of (map f ps) ≡ h (made v (λ p. of (f p)) ps)
   makes of ps = ap (λ (r : Reading W). whole w r) (reads of ps) ∙ wholes (read v (λ p. of (f p)) ps)

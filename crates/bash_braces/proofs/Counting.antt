@@ -4,7 +4,7 @@ use Rattle.std.specs.Prelude.{ℤ, ◌+ℤ◌}
 use Rattle.std.proofs.Math.Nat.{suc-mul}
 use Rattle.std.proofs.lemmas.List.{length-map}
 use Rattle.eb_bytes.specs.Text.{Text}
-use Rattle.eb_syntax.specs.declared.tree.Piece.{Piece}
+use Rattle.bash_braces.specs.declared.token.Token.{Token}
 use Rattle.bash_braces.specs.declared.sequence.Sequence.{Sequence}
 use Rattle.bash_braces.specs.declared.symbol.Symbol.{Symbol}
 use Rattle.bash_braces.specs.declared.symbol.Symbol.TheVariants.{At, Byte}
@@ -51,5 +51,5 @@ same : (is : List ℕ) → map (λ i. i) is ≡ is
 same [] = refl
 same (i ∷ is) = ap (λ (rest : List ℕ). i ∷ rest) (same is)
 
-pub counts_words : (of : ℕ → Piece) (is : List ℕ) → made (counts {P = ℕ}) of is ≡ capped (length (made symbols of is))
+pub counts_words : (of : ℕ → Token) (is : List ℕ) → made (counts {P = ℕ}) of is ≡ capped (length (made symbols of is))
 counts_words of is = ap (made (counts {P = ℕ}) of) (sym (same is)) ∙ makes symbols (counts {P = ℕ}) (λ i. i) number alike of is

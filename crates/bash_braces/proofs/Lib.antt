@@ -6,6 +6,8 @@ pub mod Enclosing
 pub mod Joining
 pub mod Levels
 pub mod Naming
+pub mod Nesting
+pub mod Opening
 pub mod Placing
 pub mod Stepping
 pub mod Whole

@@ -1,7 +1,10 @@
 pub mod Braces
 pub mod Counts
+pub mod Groups
+pub mod Names
 pub mod Pieces
 pub mod Reading
 pub mod Sequences
 pub mod Symbols
+pub mod Tokens
 pub mod Values

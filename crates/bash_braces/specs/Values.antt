@@ -2,17 +2,16 @@
 use Rattle.std.specs.Prelude.{ℕ, List, [], ◌∷◌, ◌++◌, map}
 use Rattle.std.specs.List.{flat_map}
 use Rattle.eb_bytes.specs.Text.{Text}
-use Rattle.eb_syntax.specs.declared.parts.Plain.TheVariants as plain
-use Rattle.eb_syntax.specs.declared.tree.Piece.{Piece}
-use Rattle.eb_syntax.specs.declared.tree.Piece.TheVariants as piece
 use Rattle.bash_braces.specs.declared.sequence.Sequence.{Sequence}
+use Rattle.bash_braces.specs.declared.token.Token.{Token}
 use Rattle.bash_braces.specs.Sequences.{texts}
+use Rattle.bash_braces.specs.Tokens.{plain_token}
 
--- what is made where P stands for pieces
+-- what is made where P stands for tokens
 pub record Values (P V : Type 0) : Type 0 where
-  -- of no pieces
+  -- of nothing
   pub nothing : V
-  -- of a piece, and of an unquoted byte, each before what stands after it
+  -- of a token, and of an unquoted byte, each before what stands after it
   pub put : P → V → V
   pub byte : ℕ → V → V
   -- of two parts, one after the other
@@ -26,7 +25,7 @@ pub record Values (P V : Type 0) : Type 0 where
 abbrev pub joined : {P : Type 0} → List (List P) → List (List P) → List (List P)
 joined {P} before after = flat_map (λ (w : List P). map (λ (v : List P). w ++ v) after) before
 
--- words of what stands for pieces, where `of` makes that of an unquoted byte
+-- words of what stands for tokens, where `of` makes that of an unquoted byte
 abbrev pub words_of : {P : Type 0} → (ℕ → P) → Values P (List (List P))
 words_of {P} of = record {
   nothing = [] ∷ [];
@@ -37,9 +36,6 @@ words_of {P} of = record {
   run = λ s. map (λ (t : Text). map of t) (texts s);
 }
 
--- the words, each as its pieces
-abbrev pub plain_piece : ℕ → Piece
-plain_piece b = piece.Plain (plain.Byte b)
-
-abbrev pub words : Values Piece (List (List Piece))
-words = words_of plain_piece
+-- the words, each as its tokens
+abbrev pub words : Values Token (List (List Token))
+words = words_of plain_token

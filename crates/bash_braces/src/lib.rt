@@ -4,12 +4,14 @@
 mod counts;
 mod error;
 mod expansion;
+mod groups;
 mod names;
 mod queue;
 mod reading;
 mod role;
 mod sequence;
 mod symbol;
+mod token;
 mod value;
 mod words;
 

@@ -4,11 +4,11 @@ ghost use Rattle.bash_braces.specs.Symbols.{at};
 ghost use Rattle.std.specs.List.{range_with_len};
 
 use crate::queue::Queue;
-use crate::role::{Role, is_continuation, plain_byte};
+use crate::role::Role;
 use crate::sequence::{Sequence, read_sequence};
+use crate::token::Token;
 use crate::value::Value;
 use eb_bytes::{Bytes, Memory};
-use eb_syntax::Piece;
 use std::alloc::Global;
 
 // A text before its first `}` that belongs to no `{` of it: its alternatives, from the left.
@@ -27,17 +27,17 @@ pub(crate) struct Reading<V> {
 
 // The text up to the next `}`, where only unquoted bytes stand before it and none is a `{`.
 #[tactic(auto, using(crate::proofs::Enclosing::enclosed_step, crate::proofs::Enclosing::onto_found_more))]
-fn enclosed(alloc: Global, pieces: &[Piece]) -> Result<Option<Bytes>, Memory>
-    ensures { IfOk result (λ text. text ≡ enclosed pieces.now) }
+fn enclosed(alloc: Global, tokens: &[Token]) -> Result<Option<Bytes>, Memory>
+    ensures { IfOk result (λ text. text ≡ enclosed tokens.now) }
 {
     let mut text = Bytes::new(alloc);
-    for piece in pieces {
-        match plain_byte(piece) {
+    for token in tokens {
+        match token.plain_byte() {
             Some(b'}') => return Ok(Some(text)),
             Some(b'{') => return Ok(None),
             Some(byte) => text.push(byte)?,
             None => {
-                if !is_continuation(piece) {
+                if !token.is_continuation() {
                     return Ok(None);
                 }
             }
@@ -47,10 +47,10 @@ fn enclosed(alloc: Global, pieces: &[Piece]) -> Result<Option<Bytes>, Memory>
 }
 
 // The sequence that stands before the next `}`, if one does.
-fn sequence_before(alloc: Global, pieces: &[Piece]) -> Result<Option<Sequence>, Memory>
-    ensures { IfOk result (λ held. held ≡ sequence_of (enclosed pieces.now)) }
+fn sequence_before(alloc: Global, tokens: &[Token]) -> Result<Option<Sequence>, Memory>
+    ensures { IfOk result (λ held. held ≡ sequence_of (enclosed tokens.now)) }
 {
-    match enclosed(alloc, pieces)? {
+    match enclosed(alloc, tokens)? {
         Some(text) => Ok(read_sequence(text.as_slice())),
         None => Ok(None),
     }
@@ -77,7 +77,7 @@ impl<V: Value> Level<V> {
         })
     }
 
-    // The level with the piece at a place before it.
+    // The level with the token at a place before it.
     fn put(self, alloc: Global, index: usize) -> Result<Level<V>, Memory>
         ensures { IfOk result (λ level. level ≡ put_index V.values index self) }
     {
@@ -100,17 +100,17 @@ impl<V: Value> Level<V> {
         after.follow(alloc, first)
     }
 
-    // What is made of a pair of braces with this level inside, and of what stands after it. `pieces` stand after the
+    // What is made of a pair of braces with this level inside, and of what stands after it. `tokens` stand after the
     // `{`.
-    fn pair(self, alloc: Global, pieces: &[Piece], after: V) -> Result<V, Memory>
+    fn pair(self, alloc: Global, tokens: &[Token], after: V) -> Result<V, Memory>
         ensures { IfOk result (λ value.
-            value ≡ pair V.values self.first self.others (sequence_of (enclosed pieces.now)) after) }
+            value ≡ pair V.values self.first self.others (sequence_of (enclosed tokens.now)) after) }
     {
         let Level { first, others } = self;
         if others.len() != 0 {
             return after.follow(alloc, choice(first, others)?);
         }
-        match sequence_before(alloc, pieces)? {
+        match sequence_before(alloc, tokens)? {
             Some(held) => after.follow(alloc, V::run(alloc, &held)?),
             None => {
                 let closed = after.byte(alloc, b'}')?;
@@ -124,9 +124,9 @@ impl<V: Value> Level<V> {
 impl<V: Value> Reading<V> {
     ghost use Rattle.bash_braces.specs.Reading.{divided, opened};
 
-    // The reading with the `{` at a place before it, which stands before `pieces`.
-    fn open(self, alloc: Global, index: usize, pieces: &[Piece]) -> Result<Reading<V>, Memory>
-        ensures { IfOk result (λ reading. reading ≡ opened V.values index pieces.now self.here self.outer) }
+    // The reading with the `{` at a place before it, which stands before `tokens`.
+    fn open(self, alloc: Global, index: usize, tokens: &[Token]) -> Result<Reading<V>, Memory>
+        ensures { IfOk result (λ reading. reading ≡ opened V.values index tokens.now self.here self.outer) }
     {
         let Reading { here, mut outer } = self;
         match outer.take_first() {
@@ -136,7 +136,7 @@ impl<V: Value> Reading<V> {
             }),
             Some(next) => {
                 let Level { first, others } = next;
-                let first = here.pair(alloc, pieces, first)?;
+                let first = here.pair(alloc, tokens, first)?;
                 Ok(Reading {
                     here: Level { first, others },
                     outer,
@@ -180,18 +180,18 @@ impl<V: Value> Reading<V> {
         })
     }
 
-    // The reading with the piece at a place before it, which does this and stands before `pieces`.
+    // The reading with the token at a place before it, which does this and stands before `tokens`.
     fn take(
         self,
         alloc: Global,
         role: Role,
         index: usize,
-        pieces: &[Piece],
+        tokens: &[Token],
     ) -> Result<Reading<V>, Memory>
-        ensures { IfOk result (λ reading. reading ≡ by_role V.values role index pieces.now self) }
+        ensures { IfOk result (λ reading. reading ≡ by_role V.values role index tokens.now self) }
     {
         match role {
-            Role::Opens => self.open(alloc, index, pieces),
+            Role::Opens => self.open(alloc, index, tokens),
             Role::Divides => self.divide(alloc, index),
             Role::Closes => self.close(alloc),
             Role::Stands => {
@@ -218,18 +218,18 @@ impl<V: Value> Reading<V> {
     }
 }
 
-// What is made of a list of pieces, read from its end.
-pub(crate) fn made<V: Value>(alloc: Global, pieces: &[Piece]) -> Result<V, Memory>
-    ensures { IfOk result (λ value. value ≡ made V.values (at pieces.now) (range_with_len 0 (length pieces.now))) }
+// What is made of a list of tokens, read from its end.
+pub(crate) fn made<V: Value>(alloc: Global, tokens: &[Token]) -> Result<V, Memory>
+    ensures { IfOk result (λ value. value ≡ made V.values (at tokens.now) (range_with_len 0 (length tokens.now))) }
 {
     let mut reading = Reading {
         here: Level::<V>::empty(alloc)?,
         outer: Queue::new(alloc),
     };
-    let mut left = pieces.len();
+    let mut left = tokens.len();
     while 0 < left {
         left -= 1;
-        reading = reading.take(alloc, Role::of(&pieces[left]), left, &pieces[left + 1..])?;
+        reading = reading.take(alloc, Role::of(&tokens[left]), left, &tokens[left + 1..])?;
     }
     reading.finish(alloc)
 }

@@ -1,7 +1,7 @@
-// What a word is made of before it has pieces.
+// What a word is made of before it has tokens.
 #[derive(Clone, Copy)]
 pub(crate) enum Symbol {
-    // The piece at this place of the word that was read.
+    // The token at this place of the word that was read.
     At(usize),
     // An unquoted byte of a sequence.
     Byte(u8),

@@ -11,11 +11,11 @@ pub(crate) trait Value: Drop {
 
     ghost values: { Values ℕ Self };
 
-    // Of no pieces.
+    // Of nothing.
     fn nothing(alloc: Global) -> Result<Self, Memory>
         ensures { IfOk result (λ value. value ≡ values.nothing) };
 
-    // Of the piece at a place of the word that is read, and what stands after it.
+    // Of the token at a place of the word that is read, and what stands after it.
     fn put(self, alloc: Global, index: usize) -> Result<Self, Memory>
         ensures { IfOk result (λ value. value ≡ values.put index self) };
 

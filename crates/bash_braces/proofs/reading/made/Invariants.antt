@@ -6,8 +6,8 @@ use Rattle.bash_braces.proofs.reading.made.Given as goal
 
 abbrev pub invariant-loop-left : goal.invariant-loop-left
 invariant-loop-left g l = record {
-  within : l.left ≤ length l.pieces;
-  reading : l.reading ≡ read g.V.Value.values (at l.pieces) (range_with_len l.left (length l.pieces - l.left));
+  within : l.left ≤ length l.tokens;
+  reading : l.reading ≡ read g.V.Value.values (at l.tokens) (range_with_len l.left (length l.tokens - l.left));
 }
 
 abbrev pub decreases-loop-left : goal.decreases-loop-left
