@@ -3,7 +3,7 @@ use crate::fault::Fault;
 use bash_braces::BraceErr;
 use byte_class::{is_name_byte, is_name_start};
 use eb_bytes::{Bytes, Memory};
-use eb_syntax::{Dollar, Piece, Plain, QPiece, Word};
+use eb_syntax::{Blank, Dollar, GroupPart, GroupPartOf, Piece, Plain, QPiece, Word};
 use shared::Shared;
 use sqlite_items::Items;
 use std::alloc::Global;
@@ -18,7 +18,8 @@ impl From<BraceErr> for Fault {
 }
 
 /// `braces TEXT`: `ok` and the text of each word that the text's braces give, without its quotes and with each name as
-/// `${NAME}`, or `many`. The text is a word of unquoted bytes, backslashes with a byte, quoted bytes and `$NAME`s.
+/// `${NAME}`, or `many`. The text is a word of unquoted bytes, backslashes with a byte, quoted bytes, `$NAME`s and extended
+/// groups of these.
 pub fn braces(text: &[u8], answer: &mut Answer) -> Result<(), Fault> {
     let word = read_word(answer.alloc(), text)?;
     let words = bash_braces::braces(answer.alloc(), &word)?;
@@ -28,6 +29,62 @@ pub fn braces(text: &[u8], answer: &mut Answer) -> Result<(), Fault> {
         answer.text(text.as_slice());
     }
     Ok(())
+}
+
+// How many groups in one another are shown.
+const NESTED: u8 = 200;
+
+// What is read of a word: its pieces, and the groups that are open, each with the byte before its parenthesis.
+#[derive(Drop)]
+struct Open {
+    pieces: Items<Piece>,
+    groups: Vec<(u8, Items<GroupPart>)>,
+}
+
+impl Open {
+    fn push(&mut self, part: GroupPart) -> Result<(), Memory> {
+        match (self.groups.last_mut(), part) {
+            (Some(group), part) => group.1.push(part)?,
+            (None, GroupPartOf::Piece(piece)) => self.pieces.push(piece)?,
+            (None, GroupPartOf::Blank(_) | GroupPartOf::Bar) => {}
+        }
+        Ok(())
+    }
+
+    fn piece(&mut self, piece: Piece) -> Result<(), Memory> {
+        self.push(GroupPartOf::Piece(piece))
+    }
+
+    // Takes away the byte before a parenthesis.
+    fn take_kind(&mut self) -> u8 {
+        let last = match self.groups.last_mut() {
+            Some(group) => group.1.pop(),
+            None => self.pieces.pop().map(GroupPartOf::Piece),
+        };
+        match &last {
+            Some(GroupPartOf::Piece(Piece::Plain(Plain::Byte(kind)))) => *kind,
+            _ => b'@',
+        }
+    }
+
+    // An unquoted byte.
+    fn byte(&mut self, alloc: Global, byte: u8) -> Result<(), Memory> {
+        match byte {
+            b' ' => self.push(GroupPartOf::Blank(Blank::Space)),
+            b'\t' => self.push(GroupPartOf::Blank(Blank::Tab)),
+            b'|' => self.push(GroupPartOf::Bar),
+            b'(' => {
+                let kind = self.take_kind();
+                self.groups.push((kind, Items::new(alloc)))?;
+                Ok(())
+            }
+            b')' => match self.groups.pop() {
+                Some((kind, parts)) => self.piece(Piece::Group(kind, Shared::new(alloc, parts)?)),
+                None => Ok(()),
+            },
+            byte => self.piece(Piece::Plain(Plain::Byte(byte))),
+        }
+    }
 }
 
 // What is read at a byte.
@@ -41,13 +98,16 @@ enum Inside {
 }
 
 fn read_word(alloc: Global, text: &[u8]) -> Result<Word, Memory> {
-    let mut pieces = Items::new(alloc);
+    let mut open = Open {
+        pieces: Items::new(alloc),
+        groups: Vec::new(alloc),
+    };
     let mut inside = Inside::Nothing;
     let mut begun = Bytes::new(alloc);
     for byte in text {
         let byte = *byte;
         if inside == Inside::Name && !goes_on(&begun, byte) {
-            pieces.push(piece_of(alloc, inside, begun)?)?;
+            open.piece(piece_of(alloc, inside, begun)?)?;
             begun = Bytes::new(alloc);
             inside = Inside::Nothing;
         }
@@ -56,13 +116,13 @@ fn read_word(alloc: Global, text: &[u8]) -> Result<Word, Memory> {
             (Inside::Nothing, b'\'') => inside = Inside::Single,
             (Inside::Nothing, b'"') => inside = Inside::Double,
             (Inside::Nothing, b'$') => inside = Inside::Name,
-            (Inside::Nothing, byte) => pieces.push(Piece::Plain(Plain::Byte(byte)))?,
+            (Inside::Nothing, byte) => open.byte(alloc, byte)?,
             (Inside::Backslash, byte) => {
-                pieces.push(escaped(byte))?;
+                open.piece(escaped(byte))?;
                 inside = Inside::Nothing;
             }
             (Inside::Single, b'\'') | (Inside::Double, b'"') => {
-                pieces.push(piece_of(alloc, inside, begun)?)?;
+                open.piece(piece_of(alloc, inside, begun)?)?;
                 begun = Bytes::new(alloc);
                 inside = Inside::Nothing;
             }
@@ -70,8 +130,9 @@ fn read_word(alloc: Global, text: &[u8]) -> Result<Word, Memory> {
         }
     }
     if inside == Inside::Name {
-        pieces.push(piece_of(alloc, inside, begun)?)?;
+        open.piece(piece_of(alloc, inside, begun)?)?;
     }
+    let Open { pieces, groups: _ } = open;
     Word::of(alloc, pieces)
 }
 
@@ -113,29 +174,45 @@ fn quoted(alloc: Global, text: &[u8]) -> Result<Items<QPiece>, Memory> {
 fn text_of(alloc: Global, pieces: &[Piece]) -> Result<Bytes, Memory> {
     let mut text = Bytes::new(alloc);
     for piece in pieces {
-        push_piece(&mut text, piece)?;
+        push_piece(&mut text, piece, NESTED)?;
     }
     Ok(text)
 }
 
-fn push_piece(text: &mut Bytes, piece: &Piece) -> Result<(), Memory> {
+// Puts a piece's text after the text, where so many groups in one another are shown.
+fn push_piece(text: &mut Bytes, piece: &Piece, nested: u8) -> Result<(), Memory> {
     match piece {
         Piece::Plain(Plain::Byte(byte)) | Piece::Escaped(byte) => text.push(*byte),
         Piece::Plain(Plain::Lone) => text.push(b'$'),
         Piece::Single(quoted) => text.extend(quoted.get().as_slice()),
-        Piece::Double(_, quoted) => {
-            for piece in quoted.get().as_slice() {
-                if let QPiece::Byte(byte) = piece {
-                    text.push(*byte)?;
-                }
-            }
-            Ok(())
-        }
+        Piece::Double(_, quoted) => push_quoted(text, quoted.get().as_slice()),
         Piece::Dollar(Dollar::Name(name)) => {
             text.extend(b"${")?;
             text.extend(name.get().as_slice())?;
             text.push(b'}')
         }
+        Piece::Group(kind, parts) if 0 < nested => {
+            text.push(*kind)?;
+            text.push(b'(')?;
+            for part in parts.get().as_slice() {
+                match part {
+                    GroupPartOf::Piece(piece) => push_piece(text, piece, nested - 1)?,
+                    GroupPartOf::Blank(Blank::Space) => text.push(b' ')?,
+                    GroupPartOf::Blank(_) => text.push(b'\t')?,
+                    GroupPartOf::Bar => text.push(b'|')?,
+                }
+            }
+            text.push(b')')
+        }
         _ => Ok(()),
     }
+}
+
+fn push_quoted(text: &mut Bytes, pieces: &[QPiece]) -> Result<(), Memory> {
+    for piece in pieces {
+        if let QPiece::Byte(byte) = piece {
+            text.push(*byte)?;
+        }
+    }
+    Ok(())
 }
