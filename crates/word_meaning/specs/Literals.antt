@@ -2,7 +2,6 @@
 use Rattle.std.specs.Prelude.{ℕ, ℤ, Bool, false, ◌+◌, ◌&&◌, ◌==◌, not, List, [], ◌∷◌, filter, map, Option, Some, None, Result, Ok, Err, if◌then◌else◌}
 use Rattle.std.specs.FinMap as finite
 use Rattle.std.specs.Option.{option_map}
-use Rattle.bash_braces.specs.Pieces.{is_continuation, plain_byte}
 use Rattle.bash_cond.specs.Arithmetic.{evaluates}
 use Rattle.eb_bytes.specs.Text.{Text}
 use Rattle.eb_syntax.specs.declared.tree.Items.{Items}
@@ -12,6 +11,7 @@ use Rattle.shell_state.specs.Outcome.{Doing, ◌>>=◌, ◌<$>◌}
 use Rattle.shell_vars.specs.Elements.{Elements, index_of, is_index, next_index}
 use Rattle.shell_vars.specs.declared.error.VarErr.{VarErr}
 use Rattle.shell_vars.specs.declared.error.VarErr.TheVariants.{BadSubscript}
+use Rattle.word_meaning.specs.Layers.{is_continuation, plain_byte}
 use Rattle.word_meaning.specs.Lists.{fields, row_of}
 use Rattle.word_meaning.specs.Texts.{text_of_pieces}
 use Rattle.word_meaning.specs.declared.mode.Tildes.TheVariants as tildes

@@ -2,7 +2,6 @@
 use Rattle.std.specs.Prelude.{ℕ, zero, suc, ℤ, Bool, true, false, not, ◌==◌, List, [], ◌∷◌, codes, decimal, filter, length, slice_get, take, unwrap_or, Option, Some, None, Result, Ok, Err, if◌then◌else◌}
 use Rattle.std.specs.FinMap as finite
 use Rattle.std.specs.Str.Parse.{digits_value}
-use Rattle.bash_braces.specs.Pieces.{is_continuation, plain_byte}
 use Rattle.eb_bytes.specs.Text.{Text}
 use Rattle.eb_syntax.specs.Tree.{Ref}
 use Rattle.eb_syntax.specs.declared.parts.Blank.{Blank}
@@ -19,7 +18,7 @@ use Rattle.shell_vars.specs.Elements.{Elements}
 use Rattle.shell_vars.specs.Refused.{is_refused}
 use Rattle.shell_vars.specs.Value.{elements_of}
 use Rattle.shell_vars.specs.declared.error.VarErr.{VarErr}
-use Rattle.word_meaning.specs.Layers.{SubPartLayer}
+use Rattle.word_meaning.specs.Layers.{SubPartLayer, is_continuation, plain_byte}
 use Rattle.word_meaning.specs.Marks.{together}
 
 -- a part that only looks at the state

@@ -1,12 +1,11 @@
 -- Tildes (Bash Reference Manual, "Tilde Expansion"): which of the pieces of a word stand for HOME.
 use Rattle.std.specs.Prelude.{ℕ, Bool, true, false, ◌&&◌, ◌==◌, List, [], ◌∷◌, codes, map, unwrap_or, Option, Some, None, if◌then◌else◌}
 use Rattle.std.specs.List.{zip}
-use Rattle.bash_braces.specs.Pieces.{is_continuation, plain_byte}
 use Rattle.eb_syntax.specs.declared.tree.AP.TheOpen.{PW-F}
 use Rattle.eb_syntax.specs.declared.tree.PW.{PW, out-PW}
 use Rattle.eb_syntax.specs.declared.tree.Piece.{Piece}
 use Rattle.shell_state.specs.Outcome.{Doing}
-use Rattle.word_meaning.specs.Layers.{PWLayer}
+use Rattle.word_meaning.specs.Layers.{PWLayer, is_continuation, plain_byte}
 use Rattle.word_meaning.specs.Marks.{Given, given, quoted_text}
 use Rattle.word_meaning.specs.References.{seen, value_named}
 use Rattle.word_meaning.specs.declared.mode.Tildes.{Tildes}
