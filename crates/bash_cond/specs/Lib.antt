@@ -1,5 +1,9 @@
 pub mod Arithmetic
 pub mod Numbers
 pub mod Operators
+pub mod Patterns
+pub mod Reading
+pub mod References
+pub mod Tests
 pub mod Verdict
 pub mod Words
