@@ -15,8 +15,9 @@ use crate::stack::Stack;
 use arith_syntax::{
     Increment, Instruction, ReadErr, Refusal, Timing, VariableRef, read, without_quotes,
 };
-use eb_bytes::{Budget, Bytes, Memory, Steps, signed_decimal};
+use eb_bytes::{Budget, Bytes, Memory, Steps};
 use shell_vars::{VarErr, Vars, is_refused};
+use signed_numbers::signed_decimal;
 use std::alloc::Global;
 use std::sync::ledger::Ledger;
 

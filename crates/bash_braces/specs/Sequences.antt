@@ -3,7 +3,7 @@
 use Rattle.std.specs.Prelude.{ℕ, zero, suc, ◌-◌, ◌/◌, ◌%◌, max, ℤ, pos, negsuc, neg_ℤ, ◌+ℤ◌, ◌-ℤ◌, Bool, ◌==◌, ◌&&◌, ◌||◌, List, [], ◌∷◌, ◌++◌, length, map, drop, replicate, slice_index, Option, Some, None, if◌then◌else◌, nat_lt, decimal, unsigned_abs, true, false}
 use Rattle.std.specs.Str.Parse.{without_leading_sign}
 use Rattle.byte_class.specs.Class.{is_letter}
-use Rattle.eb_bytes.specs.Numbers.{signed_number}
+use Rattle.signed_numbers.specs.Numbers.{signed_number}
 use Rattle.eb_bytes.specs.Text.{Text}
 use Rattle.bash_braces.specs.declared.sequence.Form.{Form}
 use Rattle.bash_braces.specs.declared.sequence.Form.TheVariants.{Letters, Numbers}

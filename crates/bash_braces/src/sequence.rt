@@ -3,7 +3,8 @@ ghost use Rattle.bash_braces.specs.Sequences.{begins_with_dots, between, cut, is
 ghost use Rattle.std.specs.Int.{w64};
 
 use byte_class::is_letter;
-use eb_bytes::{Bytes, Memory, decimal, read_signed};
+use eb_bytes::{Bytes, Memory, decimal};
+use signed_numbers::read_signed;
 use std::alloc::Global;
 
 // How a sequence's texts are written.

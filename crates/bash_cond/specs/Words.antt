@@ -8,7 +8,7 @@ use Rattle.std.specs.Prelude.{ℕ, zero, suc, ℤ, Bool, true, false, ◌&&◌, 
 use Rattle.std.specs.Option.{option_map}
 use Rattle.std.specs.Str.{bytes_eq}
 use Rattle.byte_class.specs.Class.{is_letter, is_name}
-use Rattle.eb_bytes.specs.Numbers.{signed_number}
+use Rattle.signed_numbers.specs.Numbers.{signed_number}
 use Rattle.eb_bytes.specs.Text.{Text, has_bytes}
 use Rattle.eb_syntax.specs.declared.parts.BinOp.{BinOp}
 use Rattle.eb_syntax.specs.declared.parts.BinOp.TheVariants as op

@@ -9,6 +9,6 @@ mod words;
 
 pub use budget::{Budget, Spent};
 pub use bytes::{Bytes, Memory};
-pub use decimals::{decimal, read_decimal, read_signed, signed_decimal};
+pub use decimals::{decimal, read_decimal};
 pub use steps::Steps;
 pub use words::{join_words, words_of};

@@ -1,9 +1,10 @@
 use crate::answer::Answer;
 use crate::fault::Fault;
 use crate::marks::read_marks;
-use eb_bytes::{decimal, join_words, read_decimal, read_signed, signed_decimal, words_of};
+use eb_bytes::{decimal, join_words, read_decimal, words_of};
 use eb_digest::{Digest, digest_of};
 use shell_marks::Marked;
+use signed_numbers::{read_signed, signed_decimal};
 use std::alloc::Global;
 
 /// `words TEXT`: the words of the text and the text with one blank between two of them.

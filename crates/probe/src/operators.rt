@@ -5,9 +5,10 @@ use crate::text::{read_text, read_texts};
 use crate::token::cut;
 use bash_params::{CaseOp, ParamErr, Replace, Strip};
 use bash_patterns::Pattern;
-use eb_bytes::{Bytes, read_decimal, read_signed};
+use eb_bytes::{Bytes, read_decimal};
 use shell_marks::Marked;
 use shell_vars::Elements;
+use signed_numbers::read_signed;
 use std::alloc::Global;
 
 impl From<ParamErr> for Fault {

@@ -1,8 +1,8 @@
 use crate::fault::Fault;
 use crate::token::cut;
 use byte_class::is_name;
-use eb_bytes::read_signed;
 use shell_vars::VarErr;
+use signed_numbers::read_signed;
 
 /// A variable, or an element of one.
 #[derive(Clone, Copy)]

@@ -10,7 +10,7 @@ use Rattle.std.proofs.lemmas.Fmt.{IsAscii-from_digits}
 use Rattle.std.proofs.lemmas.Str.{IsUtf8-from_ascii}
 use Rattle.std.proofs.lemmas.Str.Parse.{IsDigitsTest, IsNumeralModel, numerals_by_value}
 use Rattle.byte_class.specs.Class.{is_digit}
-use Rattle.eb_bytes.specs.Numbers.{fits_64_bits, is_numeral, signed_number}
+use Rattle.signed_numbers.specs.Numbers.{fits_64_bits, is_numeral, signed_number}
 use Rattle.eb_bytes.specs.Text.{Text}
 
 digit_true : (b : ℕ) → is_digit b ≡ true → IsInRange 48 57 b

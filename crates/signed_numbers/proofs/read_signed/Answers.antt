@@ -1,8 +1,8 @@
 use Rattle.std.proofs.Common.{◌≡◌, None, sym, ap, ◌∙◌}
-use Rattle.eb_bytes.specs.Numbers.{signed_number}
+use Rattle.signed_numbers.specs.Numbers.{signed_number}
 use Rattle.eb_bytes.proofs.Results.{err_is, ok_is}
-use Rattle.eb_bytes.proofs.Signed.{not_text, parsed}
-use Rattle.eb_bytes.proofs.decimals.read_signed.Goals as goal
+use Rattle.signed_numbers.proofs.Signed.{not_text, parsed}
+use Rattle.signed_numbers.proofs.read_signed.Goals as goal
 
 pub returns-in_err-ok : goal.returns-in_err-ok
 returns-in_err-ok c =
