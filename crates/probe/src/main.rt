@@ -55,33 +55,12 @@
 //! is readonly.
 #![tactic(auto)]
 
-mod answer;
-mod arithmetic;
-mod braces;
-mod bytes;
-mod eapis;
-mod entries;
-mod fault;
-mod faults;
-mod functions;
-mod marks;
-mod names;
-mod operators;
-mod patterns;
-mod place;
-mod quoting;
 mod request;
 mod rows;
-mod splits;
-mod text;
-mod token;
-mod trees;
-mod variables;
-mod versions;
 
-use crate::answer::Style;
 use crate::request::answer;
 use crate::rows::check_files;
+use probe_base::Style;
 use std::alloc::AllocError;
 use std::process::ExitCode;
 use std::{env, io};

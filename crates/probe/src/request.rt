@@ -1,23 +1,12 @@
-use crate::answer::{Answer, Style};
-use crate::arithmetic::{arith, read};
-use crate::braces::braces;
-use crate::bytes::{digest, read_digest, signed, unquoted, unsigned, words};
-use crate::eapis::{eapi, key, phase, phases};
-use crate::entries::{entry, make};
-use crate::fault::Fault;
-use crate::faults::fault;
-use crate::functions::funcs;
-use crate::names::{form, names, paths};
-use crate::operators::{operate, parameters, slice, substring};
-use crate::patterns::{Search, find};
-use crate::quoting::{ansi, ansi_expanded};
-use crate::splits::split;
-use crate::text::read_texts;
-use crate::token::parts;
-use crate::trees::share;
-use crate::variables::vars;
-use crate::versions::{cut, rs, test, version};
 use eb_bytes::Bytes;
+use probe_base::{Answer, Fault, Style, parts, read_texts};
+use probe_packages::{
+    cut, digest, eapi, entry, form, key, make, names, paths, phase, phases, read_digest, rs,
+    signed, test, unquoted, unsigned, version, words,
+};
+use probe_patterns::{Search, find, operate, parameters, slice, split, substring};
+use probe_trees::{ansi, ansi_expanded, braces, fault, funcs, share};
+use probe_variables::{arith, read, vars};
 use std::alloc::Global;
 
 /// The answer to a line.

@@ -1,10 +1,5 @@
-use crate::answer::{Answer, Style};
-use crate::fault::Fault;
-use crate::marks::read_marks;
 use crate::request::answer;
-use crate::text::read_text;
-use crate::token::{End, split_before};
-use eb_bytes::Memory;
+use probe_base::{Answer, End, Fault, Style, read_marks, read_text, split_before};
 use std::alloc::{AllocError, Global};
 use std::rt::Files;
 use std::{fs, io};

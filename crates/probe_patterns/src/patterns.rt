@@ -1,16 +1,12 @@
-use crate::answer::Answer;
-use crate::fault::Fault;
-use crate::marks::read_marks;
-use crate::text::read_text;
 use bash_patterns::{PatErr, Pattern};
 use eb_bytes::{Memory, read_decimal};
+use probe_base::{Answer, Fault, read_marks, read_text};
 
-impl From<PatErr> for Fault {
-    fn from(error: PatErr) -> Fault {
-        match error {
-            PatErr::TooDeep => Fault::Refused("deep"),
-            PatErr::Memory => Fault::Memory,
-        }
+/// What a pattern that cannot be compiled answers.
+pub fn pattern_refusal(error: PatErr) -> Fault {
+    match error {
+        PatErr::TooDeep => Fault::Refused("deep"),
+        PatErr::Memory => Fault::Memory,
     }
 }
 
@@ -39,7 +35,7 @@ pub fn find(search: Search, fields: &[&[u8]], answer: &mut Answer) -> Result<(),
         _ => return Err(Fault::NoRequest),
     };
     let marks = read_marks(answer.alloc(), marks)?;
-    let pattern = Pattern::compile(answer.alloc(), &marks, extended)?;
+    let pattern = Pattern::compile(answer.alloc(), &marks, extended).map_err(pattern_refusal)?;
     search_field(search, &pattern, text, from, answer)
 }
 

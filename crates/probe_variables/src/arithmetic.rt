@@ -1,15 +1,12 @@
 ghost use Rattle.std.specs.Prelude.{◌≡◌, ◌<◌};
 
-use crate::answer::Answer;
-use crate::fault::Fault;
-use crate::place::{Place, read_name, read_place};
-use crate::text::read_text;
-use crate::token::cut;
+use crate::place::{Place, read_name, read_place, refusal};
 use crate::variables::READONLY;
 use arith_syntax::{ReadErr, Refusal};
 use bash_arith::{ArithErr, eval};
 use byte_class::{is_name, is_name_byte};
 use eb_bytes::{Budget, Bytes, Memory, Steps, read_decimal};
+use probe_base::{Answer, Fault, cut, read_text};
 use shell_vars::{Elements, Value, Vars};
 use std::alloc::Global;
 use std::marker::Brand;
@@ -74,7 +71,7 @@ impl Known {
 
     fn give(&mut self, alloc: Global, field: &[u8]) -> Result<(), Fault> {
         if let [b'!', name @ ..] = field {
-            return Ok(self.vars.mark(read_name(name)?, READONLY)?);
+            return self.vars.mark(read_name(name)?, READONLY).map_err(refusal);
         }
         let (place, text) = cut(field, b'=').ok_or(Fault::NoRequest)?;
         let place = read_place(place)?;
@@ -89,7 +86,7 @@ impl Known {
             None => self.vars.set(place.name, Value::Text(text)),
             Some(subscript) => self.vars.set_elem(place.name, subscript, text),
         };
-        Ok(made?)
+        made.map_err(refusal)
     }
 
     // Puts the names that stand in a text at the end of the list, and no name twice in a row.
@@ -170,23 +167,22 @@ fn put_fault(fault: &ArithErr, answer: &mut Answer) {
             answer.word("Unsupported ");
             answer.push_name(name.as_slice());
         }
-        ArithErr::Var(name, refusal) => {
+        ArithErr::Var(name, error) => {
             answer.word("Var ");
             answer.push_name(name.as_slice());
-            answer.fail((*refusal).into());
+            answer.fail(refusal(*error));
         }
         ArithErr::Spent => answer.word("Spent"),
         ArithErr::Memory => answer.fail(Fault::Memory),
     }
 }
 
-impl From<ReadErr> for Fault {
-    fn from(error: ReadErr) -> Fault {
-        match error {
-            ReadErr::Refused(Refusal::Syntax) => Fault::Refused("Syntax"),
-            ReadErr::Refused(Refusal::Nesting) => Fault::Refused("Nesting"),
-            ReadErr::Memory => Fault::Memory,
-        }
+// What a refusal of an expression's text answers.
+fn read_refusal(error: ReadErr) -> Fault {
+    match error {
+        ReadErr::Refused(Refusal::Syntax) => Fault::Refused("Syntax"),
+        ReadErr::Refused(Refusal::Nesting) => Fault::Refused("Nesting"),
+        ReadErr::Memory => Fault::Memory,
     }
 }
 
@@ -201,7 +197,7 @@ pub fn read(fields: &[&[u8]], answer: &mut Answer) -> Result<(), Fault> {
         return Err(Fault::NoRequest);
     };
     let text = read_text(answer.alloc(), text)?;
-    let code = arith_syntax::read(answer.alloc(), text.as_slice(), levels)?;
+    let code = arith_syntax::read(answer.alloc(), text.as_slice(), levels).map_err(read_refusal)?;
     answer.word("ok");
     answer.number(code.len() as u64);
     Ok(())

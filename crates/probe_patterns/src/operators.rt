@@ -1,23 +1,19 @@
-use crate::answer::Answer;
-use crate::fault::Fault;
-use crate::marks::read_marks;
-use crate::text::{read_text, read_texts};
-use crate::token::cut;
+use crate::patterns::pattern_refusal;
 use bash_params::{CaseOp, ParamErr, Replace, Strip};
 use bash_patterns::Pattern;
 use eb_bytes::{Bytes, read_decimal};
+use probe_base::{Answer, Fault, cut, read_marks, read_text, read_texts};
 use shell_marks::Marked;
 use shell_vars::Elements;
 use signed_numbers::read_signed;
 use std::alloc::Global;
 
-impl From<ParamErr> for Fault {
-    fn from(error: ParamErr) -> Fault {
-        match error {
-            ParamErr::BadSubstitution => Fault::Refused("BadSubstitution"),
-            ParamErr::ValueSize => Fault::Refused("ValueSize"),
-            ParamErr::Memory => Fault::Memory,
-        }
+// What a refusal of an operator answers.
+fn refusal(error: ParamErr) -> Fault {
+    match error {
+        ParamErr::BadSubstitution => Fault::Refused("BadSubstitution"),
+        ParamErr::ValueSize => Fault::Refused("ValueSize"),
+        ParamErr::Memory => Fault::Memory,
     }
 }
 
@@ -65,7 +61,7 @@ fn operate_marks(
     by: &[&[u8]],
     answer: &mut Answer,
 ) -> Result<(), Fault> {
-    let pattern = Pattern::compile(answer.alloc(), marks, true)?;
+    let pattern = Pattern::compile(answer.alloc(), marks, true).map_err(pattern_refusal)?;
     match (operator, by) {
         (Operator::Strip(op), []) => strip(op, &pattern, field, answer),
         (Operator::Case(op), []) => change_case(op, &pattern, field, answer),
@@ -107,7 +103,7 @@ fn replace(
     let text = read_text(answer.alloc(), field)?;
     let by = read_text(answer.alloc(), by)?;
     let (text, by) = (text.as_slice(), by.as_slice());
-    let new = bash_params::replace(answer.alloc(), op, text, pattern, by)?;
+    let new = bash_params::replace(answer.alloc(), op, text, pattern, by).map_err(refusal)?;
     put_text(&new, answer);
     Ok(())
 }
@@ -124,7 +120,7 @@ pub fn substring(fields: &[&[u8]], answer: &mut Answer) -> Result<(), Fault> {
         _ => return Err(Fault::NoRequest),
     };
     let text = read_text(answer.alloc(), text)?;
-    let part = bash_params::substring(answer.alloc(), text.as_slice(), from, len)?;
+    let part = bash_params::substring(answer.alloc(), text.as_slice(), from, len).map_err(refusal)?;
     put_text(&part, answer);
     Ok(())
 }
@@ -137,7 +133,7 @@ pub fn slice(fields: &[&[u8]], answer: &mut Answer) -> Result<(), Fault> {
     };
     let (from, len) = (read_number(from)?, read_length(len)?);
     let elements = read_elements(answer.alloc(), pairs)?;
-    let texts = bash_params::slice(answer.alloc(), &elements, from, len)?;
+    let texts = bash_params::slice(answer.alloc(), &elements, from, len).map_err(refusal)?;
     put_texts(texts.as_slice(), answer);
     Ok(())
 }
@@ -161,7 +157,13 @@ fn put_parameters(
     let [zero, args @ ..] = texts else {
         return Err(Fault::NoRequest);
     };
-    let taken = bash_params::slice_parameters(answer.alloc(), zero.as_slice(), args, from, len)?;
+    let taken = bash_params::slice_parameters(
+        answer.alloc(),
+        zero.as_slice(),
+        args,
+        from,
+        len,
+    ).map_err(refusal)?;
     put_texts(taken.as_slice(), answer);
     Ok(())
 }

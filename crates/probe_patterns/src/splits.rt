@@ -1,7 +1,4 @@
-use crate::answer::Answer;
-use crate::fault::Fault;
-use crate::marks::read_marks;
-use crate::text::read_text;
+use probe_base::{Answer, Fault, read_marks, read_text};
 use shell_marks::Marked;
 
 /// `split IFS MARKS`: the fields as lists of marks, `.` for a field without marks; `-` where there is no field.

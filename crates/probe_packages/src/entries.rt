@@ -5,29 +5,25 @@ ghost use Rattle.eapi_tables.specs.Key.{key_place};
 ghost use Rattle.eb_bytes.specs.Text.{has_bytes};
 ghost use Rattle.md5_cache.specs.Entry.{HasNoZero, eapi_of, value_of, words_of};
 
-use crate::answer::Answer;
-use crate::fault::Fault;
-use crate::text::read_text;
-use crate::token::cut;
 use eapi_tables::{Eapi, Key, is_eclass_name};
 use eb_bytes::{Bytes, Memory, join_words};
 use eb_digest::{Digest, digest_of};
 use md5_cache::{Entry, EntryErr, has_no_zero, have_one_md5, read_entry, write_entry};
+use probe_base::{Answer, Fault, cut, read_text};
 use std::alloc::Global;
 
-impl From<EntryErr> for Fault {
-    fn from(error: EntryErr) -> Fault {
-        match error {
-            EntryErr::BadEntry => Fault::Refused("bad"),
-            EntryErr::Incomplete => Fault::Refused("incomplete"),
-            EntryErr::Memory => Fault::Memory,
-        }
+// What a refusal of an entry answers.
+fn refusal(error: EntryErr) -> Fault {
+    match error {
+        EntryErr::BadEntry => Fault::Refused("bad"),
+        EntryErr::Incomplete => Fault::Refused("incomplete"),
+        EntryErr::Memory => Fault::Memory,
     }
 }
 
 /// `entry TEXT`: `ok` and the text that writing the entry of this text gives, or `bad` where it is that of none.
 pub fn entry(text: &[u8], answer: &mut Answer) -> Result<(), Fault> {
-    let entry = read_entry(answer.alloc(), text)?;
+    let entry = read_entry(answer.alloc(), text).map_err(refusal)?;
     put_entry(&entry, answer)
 }
 
@@ -93,7 +89,7 @@ impl Read {
             return Err(Fault::NoRequest);
         }
         let md5 = digest_of(ebuild);
-        Ok(Entry::new(alloc, self.values, self.eclasses, md5)?)
+        Entry::new(alloc, self.values, self.eclasses, md5).map_err(refusal)
     }
 }
 

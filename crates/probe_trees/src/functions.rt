@@ -1,9 +1,6 @@
-use crate::answer::Answer;
-use crate::fault::Fault;
-use crate::text::read_text;
-use crate::token::cut;
 use crate::trees::{command_of, put_command};
 use eb_syntax::Command;
+use probe_base::{Answer, Fault, cut, read_text};
 use shared::Shared;
 use shell_functions::Funcs;
 use std::alloc::Global;

@@ -1,6 +1,5 @@
-use crate::answer::Answer;
-use crate::fault::Fault;
 use eapi_tables::{Eapi, Key, Phase, accumulates, eapi_line, has_key, is_phase};
+use probe_base::{Answer, Fault};
 
 /// `eapi TEXT`: the EAPI that an ebuild's text names, as its text.
 pub fn eapi(text: &[u8], answer: &mut Answer) -> Result<(), Fault> {

@@ -1,8 +1,6 @@
-use crate::answer::Answer;
-use crate::fault::Fault;
-use crate::marks::read_marks;
 use eb_bytes::{decimal, join_words, read_decimal, words_of};
 use eb_digest::{Digest, digest_of};
+use probe_base::{Answer, Fault, read_marks};
 use shell_marks::Marked;
 use signed_numbers::{read_signed, signed_decimal};
 use std::alloc::Global;

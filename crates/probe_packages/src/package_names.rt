@@ -1,10 +1,9 @@
-use crate::answer::Answer;
-use crate::fault::Fault;
 use crate::versions::order_word;
 use byte_class::is_name;
 use eapi_tables::is_eclass_name;
 use eb_bytes::{Bytes, Memory};
 use ebuild_names::{EbuildPath, NameErr, Names, is_category, is_flag, is_package, read_path};
+use probe_base::{Answer, Fault};
 use std::alloc::Global;
 
 fn path_of(alloc: Global, parts: [&Bytes; 3]) -> Result<EbuildPath, Memory> {

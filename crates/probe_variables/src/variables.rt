@@ -1,9 +1,6 @@
-use crate::answer::Answer;
-use crate::fault::Fault;
-use crate::place::{Place, read_place};
-use crate::text::read_text;
-use crate::token::{cut, parts};
+use crate::place::{Place, read_place, refusal};
 use eb_bytes::{Bytes, read_decimal};
+use probe_base::{Answer, Fault, cut, parts, read_text};
 use shell_vars::{Attr, Binding, Elements, FrameKind, Value, Vars, is_refused};
 use std::alloc::Global;
 
@@ -78,12 +75,17 @@ fn change_place(
 ) -> Result<(), Fault> {
     let name = place.name;
     match (call, place.subscript) {
-        (b"set", Some(subscript)) => vars.set_elem(name, subscript, text)?,
+        (b"set", Some(subscript)) => vars.set_elem(name, subscript, text).map_err(refusal)?,
         (b"with", Some(subscript)) => {
-            let value = Value::with_element(answer.alloc(), vars.get(name), subscript, text)?;
+            let value = Value::with_element(
+                answer.alloc(),
+                vars.get(name),
+                subscript,
+                text,
+            ).map_err(refusal)?;
             put_value(Some(&value), answer);
         }
-        (_, subscript) => vars.assign(name, subscript, text)?,
+        (_, subscript) => vars.assign(name, subscript, text).map_err(refusal)?,
     }
     Ok(())
 }
@@ -97,14 +99,16 @@ fn change_name(
     answer: &mut Answer,
 ) -> Result<(), Fault> {
     match call {
-        b"set" => vars.set(name, value)?,
-        b"set_global" => vars.set_global(name, value)?,
-        b"append" => vars.append(name, value)?,
-        b"local" => vars.local(name, Some(value))?,
-        b"bind" if vars.is_prefix_open() => vars.bind(name, value)?,
+        b"set" => vars.set(name, value).map_err(refusal)?,
+        b"set_global" => vars.set_global(name, value).map_err(refusal)?,
+        b"append" => vars.append(name, value).map_err(refusal)?,
+        b"local" => vars.local(name, Some(value)).map_err(refusal)?,
+        b"bind" if vars.is_prefix_open() => vars.bind(name, value).map_err(refusal)?,
         b"bind" => answer.word("closed"),
         b"with" => {
-            let value = Value::with_appended(answer.alloc(), vars.get(name), value)?;
+            let value = Value::with_appended(answer.alloc(), vars.get(name), value).map_err(
+                refusal,
+            )?;
             put_value(Some(&value), answer);
         }
         _ => return Err(Fault::NoRequest),
@@ -115,9 +119,12 @@ fn change_name(
 // A call without a value.
 fn ask(call: &[u8], place: Place<'_>, vars: &mut Vars, answer: &mut Answer) -> Result<(), Fault> {
     match (call, place.subscript) {
-        (b"element", subscript) => put_text(vars.element(place.name, subscript)?, answer),
+        (b"element", subscript) => put_text(
+            vars.element(place.name, subscript).map_err(refusal)?,
+            answer,
+        ),
         (b"index", Some(at)) => put_index(Value::index(vars.get(place.name), at), answer),
-        (b"unset", Some(subscript)) => vars.unset_elem(place.name, subscript)?,
+        (b"unset", Some(subscript)) => vars.unset_elem(place.name, subscript).map_err(refusal)?,
         (_, None) => ask_name(call, place.name, vars, answer)?,
         _ => return Err(Fault::NoRequest),
     }
@@ -132,7 +139,7 @@ fn ask_name(call: &[u8], name: &[u8], vars: &mut Vars, answer: &mut Answer) -> R
         b"refused" => answer.yes_or_no(is_refused(name)),
         b"copy" => put_copy(vars.get(name), answer)?,
         b"attr" => answer.word(attributes_word(vars.attr(name))),
-        b"unset" => answer.yes_or_no(vars.unset(name)?),
+        b"unset" => answer.yes_or_no(vars.unset(name).map_err(refusal)?),
         _ => mark_name(call, name, vars)?,
     }
     Ok(())
@@ -141,10 +148,10 @@ fn ask_name(call: &[u8], name: &[u8], vars: &mut Vars, answer: &mut Answer) -> R
 // A call without a value that answers nothing.
 fn mark_name(call: &[u8], name: &[u8], vars: &mut Vars) -> Result<(), Fault> {
     match call {
-        b"local" => vars.local(name, None)?,
-        b"readonly" => vars.mark(name, READONLY)?,
-        b"export" => vars.mark(name, EXPORTED)?,
-        b"unset_global" => vars.unset_global(name)?,
+        b"local" => vars.local(name, None).map_err(refusal)?,
+        b"readonly" => vars.mark(name, READONLY).map_err(refusal)?,
+        b"export" => vars.mark(name, EXPORTED).map_err(refusal)?,
+        b"unset_global" => vars.unset_global(name).map_err(refusal)?,
         _ => return Err(Fault::NoRequest),
     }
     Ok(())

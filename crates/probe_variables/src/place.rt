@@ -1,6 +1,5 @@
-use crate::fault::Fault;
-use crate::token::cut;
 use byte_class::is_name;
+use probe_base::{Fault, cut};
 use shell_vars::VarErr;
 use signed_numbers::read_signed;
 
@@ -40,15 +39,14 @@ pub fn read_name(field: &[u8]) -> Result<&[u8], Fault> {
     }
 }
 
-impl From<VarErr> for Fault {
-    fn from(refusal: VarErr) -> Fault {
-        match refusal {
-            VarErr::Readonly => Fault::Refused("Readonly"),
-            VarErr::LocalOutside => Fault::Refused("LocalOutside"),
-            VarErr::BadSubscript => Fault::Refused("BadSubscript"),
-            VarErr::ValueSize => Fault::Refused("ValueSize"),
-            VarErr::TotalSize => Fault::Refused("TotalSize"),
-            VarErr::Memory => Fault::Memory,
-        }
+/// What a refusal of a variable answers.
+pub fn refusal(refusal: VarErr) -> Fault {
+    match refusal {
+        VarErr::Readonly => Fault::Refused("Readonly"),
+        VarErr::LocalOutside => Fault::Refused("LocalOutside"),
+        VarErr::BadSubscript => Fault::Refused("BadSubscript"),
+        VarErr::ValueSize => Fault::Refused("ValueSize"),
+        VarErr::TotalSize => Fault::Refused("TotalSize"),
+        VarErr::Memory => Fault::Memory,
     }
 }

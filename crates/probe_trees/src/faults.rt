@@ -1,7 +1,5 @@
-use crate::answer::Answer;
-use crate::fault::Fault;
-use crate::text::read_text;
 use eb_bytes::{Bytes, read_decimal};
+use probe_base::{Answer, Fault, read_text};
 use shell_state::{Fault as ScriptFault, fault_text};
 use std::alloc::Global;
 

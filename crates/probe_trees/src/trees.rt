@@ -1,10 +1,8 @@
-use crate::answer::Answer;
-use crate::fault::Fault;
-use crate::text::read_text;
 use eb_bytes::{Bytes, Memory};
 use eb_syntax::{
     AndOr, Command, Dollar, Item, ItemEnd, Items, Piece, Pipe, QPiece, Simple, Tail, Word,
 };
+use probe_base::{Answer, Fault, read_text};
 use shared::Shared;
 use sqlite_items::Items as List;
 use std::alloc::Global;

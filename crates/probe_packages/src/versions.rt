@@ -1,17 +1,15 @@
-use crate::answer::Answer;
-use crate::fault::Fault;
 use eb_bytes::Bytes;
+use probe_base::{Answer, Fault};
 use std::cmp::Ordering;
 use version_funcs::{VerErr, compare_versions, read_version, ver_cut, ver_rs, ver_test};
 
-impl From<VerErr> for Fault {
-    fn from(error: VerErr) -> Fault {
-        match error {
-            VerErr::BadRange => Fault::Refused("BadRange"),
-            VerErr::BadVersion => Fault::Refused("BadVersion"),
-            VerErr::BadOperator => Fault::Refused("BadOperator"),
-            VerErr::Memory => Fault::Memory,
-        }
+// What a refusal of the version functions answers.
+fn refusal(error: VerErr) -> Fault {
+    match error {
+        VerErr::BadRange => Fault::Refused("BadRange"),
+        VerErr::BadVersion => Fault::Refused("BadVersion"),
+        VerErr::BadOperator => Fault::Refused("BadOperator"),
+        VerErr::Memory => Fault::Memory,
     }
 }
 
@@ -36,7 +34,7 @@ pub fn order_word(order: Ordering) -> &'static str {
 
 /// `cut RANGE V`: `ok` and what is cut out, or the error's name.
 pub fn cut(range: &[u8], v: &[u8], answer: &mut Answer) -> Result<(), Fault> {
-    let text = ver_cut(answer.alloc(), range, v)?;
+    let text = ver_cut(answer.alloc(), range, v).map_err(refusal)?;
     put_text(&text, answer);
     Ok(())
 }
@@ -46,7 +44,7 @@ pub fn rs(v: &[u8], pairs: &[Bytes], answer: &mut Answer) -> Result<(), Fault> {
     if pairs.len() % 2 != 0 {
         return Err(Fault::NoRequest);
     }
-    let text = ver_rs(answer.alloc(), pairs, v)?;
+    let text = ver_rs(answer.alloc(), pairs, v).map_err(refusal)?;
     put_text(&text, answer);
     Ok(())
 }
@@ -58,7 +56,7 @@ fn put_text(text: &Bytes, answer: &mut Answer) {
 
 /// `test A OP B`: `true`, `false`, or the error's name.
 pub fn test(a: &[u8], op: &[u8], b: &[u8], answer: &mut Answer) -> Result<(), Fault> {
-    let holds = ver_test(a, op, b)?;
+    let holds = ver_test(a, op, b).map_err(refusal)?;
     answer.word(if holds { "true" } else { "false" });
     Ok(())
 }

@@ -1,19 +1,17 @@
-use crate::answer::Answer;
-use crate::fault::Fault;
 use bash_braces::BraceErr;
 use byte_class::{is_name_byte, is_name_start};
 use eb_bytes::{Bytes, Memory};
 use eb_syntax::{Dollar, Piece, Plain, QPiece, Word};
+use probe_base::{Answer, Fault};
 use shared::Shared;
 use sqlite_items::Items;
 use std::alloc::Global;
 
-impl From<BraceErr> for Fault {
-    fn from(error: BraceErr) -> Fault {
-        match error {
-            BraceErr::TooMany => Fault::Refused("many"),
-            BraceErr::Memory => Fault::Memory,
-        }
+// What a refusal of braces answers.
+fn refusal(error: BraceErr) -> Fault {
+    match error {
+        BraceErr::TooMany => Fault::Refused("many"),
+        BraceErr::Memory => Fault::Memory,
     }
 }
 
@@ -21,7 +19,7 @@ impl From<BraceErr> for Fault {
 /// `${NAME}`, or `many`. The text is a word of unquoted bytes, backslashes with a byte, quoted bytes and `$NAME`s.
 pub fn braces(text: &[u8], answer: &mut Answer) -> Result<(), Fault> {
     let word = read_word(answer.alloc(), text)?;
-    let words = bash_braces::braces(answer.alloc(), &word)?;
+    let words = bash_braces::braces(answer.alloc(), &word).map_err(refusal)?;
     answer.word("ok");
     for word in &words {
         let text = text_of(answer.alloc(), word.pieces.get().as_slice())?;

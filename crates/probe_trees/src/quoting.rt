@@ -1,13 +1,11 @@
-use crate::answer::Answer;
-use crate::fault::Fault;
 use eb_grammar::{AnsiErr, ansi_text, ansi_value};
+use probe_base::{Answer, Fault};
 
-impl From<AnsiErr> for Fault {
-    fn from(error: AnsiErr) -> Fault {
-        match error {
-            AnsiErr::Quoting => Fault::Refused("Quoting"),
-            AnsiErr::Memory => Fault::Memory,
-        }
+// What a refusal of an escape answers.
+fn refusal(error: AnsiErr) -> Fault {
+    match error {
+        AnsiErr::Quoting => Fault::Refused("Quoting"),
+        AnsiErr::Memory => Fault::Memory,
     }
 }
 
@@ -20,7 +18,7 @@ pub fn ansi(text: &[u8], answer: &mut Answer) -> Result<(), Fault> {
 
 /// `ansi_value TEXT`: `ok` and what `$'..'` around the text stands for, or the error's name.
 pub fn ansi_expanded(text: &[u8], answer: &mut Answer) -> Result<(), Fault> {
-    let value = ansi_value(answer.alloc(), text)?;
+    let value = ansi_value(answer.alloc(), text).map_err(refusal)?;
     answer.word("ok");
     answer.text(value.as_slice());
     Ok(())
