@@ -6,3 +6,4 @@ pub mod RunEnds
 pub mod Skips
 pub mod ReservedWords
 pub mod Trails
+pub mod Known

@@ -1,12 +1,15 @@
-ghost use Rattle.std.specs.Prelude.{◌≡◌, ℕ, ◌+◌, ◌-◌, ◌<◌, ◌≤◌, ◌==◌, ◌^◌, [], ◌∷◌, ◌++◌, length, take, count_by, Ok, OnSome, MatchResult};
+ghost use Rattle.std.specs.Prelude.{◌≡◌, ℕ, ◌+◌, ◌-◌, ◌<◌, ◌≤◌, ◌==◌, ◌^◌, [], ◌∷◌, ◌++◌, length, take, count_by, Ok, IsTrue, OnSome, MatchResult};
 ghost use Rattle.eb_grammar.specs.Peg as peg;
 ghost use Rattle.bash_cursor.specs.Seen.{at_spot, gone_to, marks_of, no_marks, stand_of, with_marks, with_room};
 ghost use Rattle.eb_grammar.specs.HereDocuments as here;
 ghost use Rattle.bash_cursor.specs.Reads.{Eats, ReadsMarks};
+ghost use Rattle.grammar_laws.specs.Nestings.{NoReading};
 
 use crate::error::LexErr;
+use crate::failures::{Failure, Failures};
 use crate::marks::{HereMark, Marks};
 use eb_syntax::HereBody;
+use grammar_laws::Nesting;
 use shared::Shared;
 use sqlite_items::Items as List;
 use std::alloc::Global;
@@ -17,7 +20,8 @@ use std::mem;
 const MAX_NESTING: u8 = 200;
 
 /// A place in a text, with the nestings that may still be opened there, the here-documents that wait for their bodies,
-/// and the bodies that were read. Contracts see the text, the grammar's place in it, and the nestings left.
+/// and the bodies that were read. Contracts see the text, the grammar's place in it, and the nestings left. They don't
+/// see the nestings that are remembered to have no reading: these save time, and change no answer.
 #[derive(Drop)]
 pub struct Cursor<'a> {
     text: &'a [u8],
@@ -26,12 +30,14 @@ pub struct Cursor<'a> {
     line: u32,
     room: u8,
     marks: Marks,
+    failures: Failures,
     alloc: Global,
 }
 
 impl<'a> Model for Cursor<'a> {
     ghost use Rattle.std.specs.Prelude.{◌≡◌, ◌≤◌, ◌<◌, ◌+◌, length, drop};
     ghost use Rattle.std.specs.Coded.{codes};
+    ghost use Rattle.bash_cursor.specs.Known.{AreKnown};
     ghost use Rattle.bash_cursor.specs.Seen.{Seen};
     ghost use Rattle.eb_syntax.specs.contracts.tree.HereBody as body;
 
@@ -41,7 +47,7 @@ impl<'a> Model for Cursor<'a> {
 
     ghost view = { λ c. record { text = c.text.now; spot = record { rest = c.rest.now; place = c.place; line = c.line; waiting = c.marks.waiting; bodies = c.marks.bodies }; room = c.room } };
 
-    ghost invariant = { λ c. (c.line + length c.rest.now ≤ 4294967295) × (c.place + length c.rest.now < 4294967296) × (c.room ≤ 200) × (c.rest.now ≡ drop c.place c.text.now) };
+    ghost invariant = { λ c. (c.line + length c.rest.now ≤ 4294967295) × (c.place + length c.rest.now < 4294967296) × (c.room ≤ 200) × (c.rest.now ≡ drop c.place c.text.now) × AreKnown c.text.now c.failures };
 }
 
 /// A place to which the cursor that gave it can go back.
@@ -110,6 +116,7 @@ impl<'a> Cursor<'a> {
             line: 1,
             room: MAX_NESTING,
             marks: Marks::new(alloc),
+            failures: Failures::new(alloc),
             alloc,
         }
     }
@@ -126,6 +133,7 @@ impl<'a> Cursor<'a> {
             line,
             room: self.room,
             marks: Marks::new(self.alloc),
+            failures: Failures::new(self.alloc),
             alloc: self.alloc,
         }
     }
@@ -270,6 +278,36 @@ impl<'a> Cursor<'a> {
         ensures { self.new ≡ with_room (self.old.room + 1) self.old }
     {
         self.room += 1;
+    }
+
+    /// Whether a nesting is known to have no reading at the place: it was read there in vain, when as many nestings
+    /// could be opened as now, or fewer.
+    pub fn known(&self, nesting: Nesting) -> bool
+        ensures { IsTrue result → NoReading nesting self.now.room self.now.spot }
+    {
+        self.failures.has(self.failure(nesting))
+    }
+
+    /// Remembers that a nesting has no reading at the place, so that `known` says so from now on. Where memory fails it
+    /// isn't remembered, which costs nothing but time.
+    pub fn remember(&mut self, nesting: Nesting)
+        requires { NoReading nesting self.old.room self.old.spot }
+        ensures { self.new ≡ self.old }
+    {
+        let failure = self.failure(nesting);
+        self.failures.add(failure);
+    }
+
+    // A nesting at the place.
+    fn failure(&self, nesting: Nesting) -> Failure
+        ensures { result ≡ record { nesting = nesting; place = self.now.spot.place; line = self.now.spot.line; room = self.now.room } }
+    {
+        Failure {
+            nesting,
+            place: self.place,
+            line: self.line,
+            room: self.room,
+        }
     }
 
     /// All that the cursor shows, to which `restore` brings it back.

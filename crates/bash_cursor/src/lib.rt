@@ -17,9 +17,30 @@ macro_rules! or_back {
     };
 }
 
+/// What was read inside a nesting that begins at `start`. After an error the cursor goes back there, and the error is
+/// handed on; where there is no reading, the cursor remembers it.
+#[macro_export]
+macro_rules! or_remember {
+    ($cursor:expr, $start:expr, $nesting:expr, $read:expr) => {
+        match $read {
+            Ok(read) => read,
+            Err(LexErr::NoParse) => {
+                $cursor.back_to($start);
+                $cursor.remember($nesting);
+                return Err(LexErr::NoParse);
+            }
+            Err(error) => {
+                $cursor.back_to($start);
+                return Err(error);
+            }
+        }
+    };
+}
+
 mod class;
 mod cursor;
 mod error;
+mod failures;
 mod here_lines;
 mod marks;
 mod names;

@@ -23,7 +23,14 @@ fn parentheses<A: Fn(bool, &mut Cursor<'_>) -> Result<ArithText, LexErr>>(
     requires { ReadsBelow (arith_at quoted) c.old.room (A.pre arith.now quoted) (A.post arith.now quoted) }
     ensures { Reads (parentheses_at quoted c.old.room) c.old result c.new }
 {
-    nested!(c, b"(", parentheses_inside(quoted, c, arith))
+    if !c.sees(b"(") {
+        return Err(LexErr::NoParse);
+    }
+    let start = c.here();
+    c.enter()?;
+    let text = or_back!(c, start, parentheses_inside(quoted, c, arith));
+    c.leave();
+    Ok(text)
 }
 
 // The same, whose nesting is open.

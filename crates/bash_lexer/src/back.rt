@@ -7,10 +7,11 @@ ghost use Rattle.eb_grammar.specs.Grammar.{inside, rules_in};
 ghost use Rattle.eb_grammar.specs.Peg.{gather, within};
 ghost use Rattle.eb_grammar.specs.Words as words;
 
-use bash_cursor::{Cursor, LexErr, backslash, is_in, or_back};
+use bash_cursor::{Cursor, LexErr, backslash, is_in, or_back, or_remember};
 use eb_bytes::Bytes;
 use eb_grammar::Class;
 use eb_syntax::{Back, Items};
+use grammar_laws::Nesting;
 
 /// A command in backquotes, which is read by `items`.
 #[tactic(auto, using(bash_cursor::proofs::Nesting::nest_no, bash_cursor::proofs::Nesting::nest_deep, bash_cursor::proofs::Nesting::nest_in), unfolding(eb_grammar::specs::Words::backquoted))]
@@ -21,7 +22,7 @@ pub fn back_of<I: Fn(&mut Cursor<'_>) -> Result<Items, LexErr>>(
     requires { ReadsBelow items_at c.old.room (I.pre items.now) (I.post items.now) }
     ensures { Reads (back_at c.old.room) c.old result c.new }
 {
-    nested!(c, b"`", backquotes(c, items))
+    nested!(c, Nesting::Backquotes, b"`", backquotes(c, items))
 }
 
 // The same, whose nesting is open. Its lines are those of the text that it stands in.

@@ -8,10 +8,11 @@ ghost use Rattle.eb_grammar.specs.Grammar.{inside, rules_in};
 ghost use Rattle.eb_grammar.specs.Words as words;
 
 use crate::lists::shared;
-use bash_cursor::{Cursor, LexErr, name, or_back};
+use bash_cursor::{Cursor, LexErr, name, or_back, or_remember};
 use eb_bytes::Bytes;
 use eb_grammar::Class;
 use eb_syntax::{ArithText, Dollar, Items, Param};
+use grammar_laws::Nesting;
 use shared::Shared;
 
 // `$((..))`, with the text read by `arith`.
@@ -24,7 +25,12 @@ fn arith_expansion<A: Fn(bool, &mut Cursor<'_>) -> Result<ArithText, LexErr>>(
     requires { ReadsBelow (arith_at quoted) c.old.room (A.pre arith.now quoted) (A.post arith.now quoted) }
     ensures { Reads (arith_expansion_at quoted c.old.room) c.old result c.new }
 {
-    nested!(c, b"$((", arith_dollar(quoted, c, arith))
+    nested!(
+        c,
+        Nesting::Arithmetic { quoted },
+        b"$((",
+        arith_dollar(quoted, c, arith)
+    )
 }
 
 // The same, whose nesting is open.
@@ -53,7 +59,7 @@ fn substitution<I: Fn(&mut Cursor<'_>) -> Result<Items, LexErr>>(
     requires { ReadsBelow items_at c.old.room (I.pre items.now) (I.post items.now) }
     ensures { Reads (substitution_at c.old.room) c.old result c.new }
 {
-    nested!(c, b"$(", commands(c, items))
+    nested!(c, Nesting::Command, b"$(", commands(c, items))
 }
 
 // The same, whose nesting is open.
@@ -86,7 +92,7 @@ fn param_expansion<P: Fn(bool, &mut Cursor<'_>) -> Result<Param, LexErr>>(
     requires { ReadsBelow (param_at quoted) c.old.room (P.pre param.now quoted) (P.post param.now quoted) }
     ensures { Reads (param_expansion_at quoted c.old.room) c.old result c.new }
 {
-    nested!(c, b"${", param(quoted, c))
+    nested!(c, Nesting::Parameter { quoted }, b"${", param(quoted, c))
 }
 
 // The same, shared.

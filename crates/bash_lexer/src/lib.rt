@@ -56,15 +56,16 @@ macro_rules! repeat {
     }};
 }
 
-// What a rule reads inside the nesting that it opens with these bytes.
+// What a rule reads inside the nesting that it opens with these bytes. Where the cursor knows that the nesting has no
+// reading here, it is not read again.
 macro_rules! nested {
-    ($cursor:expr, $begins:expr, $read:expr) => {{
-        if !$cursor.sees($begins) {
+    ($cursor:expr, $nesting:expr, $begins:expr, $read:expr) => {{
+        if !$cursor.sees($begins) || $cursor.known($nesting) {
             return Err(LexErr::NoParse);
         }
         let start = $cursor.here();
         $cursor.enter()?;
-        let found = or_back!($cursor, start, $read);
+        let found = or_remember!($cursor, start, $nesting, $read);
         $cursor.leave();
         Ok(found)
     }};

@@ -10,12 +10,13 @@ ghost use Rattle.eb_grammar.specs.Words as words;
 use crate::lists::{put, shared};
 use crate::quotes::double_of;
 use bash_cursor::{
-    Cursor, LexErr, ansi_quoted, continuation, escaped, group_start, lone, or_back, process_start,
-    single_quoted,
+    Cursor, LexErr, ansi_quoted, continuation, escaped, group_start, lone, or_back, or_remember,
+    process_start, single_quoted,
 };
 use eb_bytes::Bytes;
 use eb_grammar::Class;
 use eb_syntax::{Back, Body, Dollar, GroupPart, Piece, Plain};
+use grammar_laws::Nesting;
 use shared::Shared;
 use sqlite_items::Items as List;
 
@@ -33,9 +34,12 @@ pub fn process<B: Fn(&mut Cursor<'_>) -> Result<Body, LexErr>>(
         return Err(LexErr::NoParse);
     };
     c.back_to(front);
+    if c.known(Nesting::Process) {
+        return Err(LexErr::NoParse);
+    }
     let start = c.here();
     c.enter()?;
-    let found = or_back!(c, start, process_body(c, body));
+    let found = or_remember!(c, start, Nesting::Process, process_body(c, body));
     c.leave();
     Ok(found)
 }
@@ -72,9 +76,12 @@ pub fn group<P: Fn(&mut Cursor<'_>) -> Result<Piece, LexErr>>(
         return Err(LexErr::NoParse);
     };
     c.back_to(front);
+    if c.known(Nesting::Group) {
+        return Err(LexErr::NoParse);
+    }
     let start = c.here();
     c.enter()?;
-    let found = or_back!(c, start, group_inside(c, piece));
+    let found = or_remember!(c, start, Nesting::Group, group_inside(c, piece));
     c.leave();
     Ok(found)
 }

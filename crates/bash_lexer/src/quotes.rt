@@ -8,9 +8,10 @@ ghost use Rattle.eb_grammar.specs.Peg.{many};
 ghost use Rattle.eb_grammar.specs.Words as words;
 
 use crate::lists::{put, shared};
-use bash_cursor::{Cursor, LexErr, continuation, lone, or_back};
+use bash_cursor::{Cursor, LexErr, continuation, lone, or_back, or_remember};
 use eb_grammar::Class;
 use eb_syntax::{Back, DQ, Dollar, Piece, QPiece};
+use grammar_laws::Nesting;
 use sqlite_items::Items as List;
 
 // A backslash and the byte that it quotes inside double quotes, which is given.
@@ -100,7 +101,7 @@ pub fn double_quoted_of<
     requires backs { ReadsBelow back_at (c.old.room + 1) (B.pre back.now) (B.post back.now) }
     ensures { Reads (double_quoted_at c.old.room) c.old result c.new }
 {
-    nested!(c, b"\"", quotes(c, dollar, back))
+    nested!(c, Nesting::DoubleQuotes, b"\"", quotes(c, dollar, back))
 }
 
 /// `".."` or `$".."`, as a piece.

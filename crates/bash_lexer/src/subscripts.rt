@@ -8,9 +8,10 @@ ghost use Rattle.eb_grammar.specs.Params as params;
 ghost use Rattle.eb_grammar.specs.Peg.{many};
 
 use crate::lists::{put, shared};
-use bash_cursor::{Cursor, LexErr, or_back};
+use bash_cursor::{Cursor, LexErr, or_back, or_remember};
 use eb_grammar::Class;
 use eb_syntax::{Piece, Sub, SubPart};
+use grammar_laws::Nesting;
 use sqlite_items::Items as List;
 
 /// `[..]`, with what is read inside it by `subscript` and `piece`.
@@ -23,14 +24,7 @@ pub fn subscript_of<
     requires pieces { ReadsBelow piece_at c.old.room (P.pre piece.now) (P.post piece.now) }
     ensures { Reads (subscript_at c.old.room) c.old result c.new }
 {
-    if !c.sees(b"[") {
-        return Err(LexErr::NoParse);
-    }
-    let start = c.here();
-    c.enter()?;
-    let parts = or_back!(c, start, brackets(c, subscript, piece));
-    c.leave();
-    Ok(parts)
+    nested!(c, Nesting::Subscript, b"[", brackets(c, subscript, piece))
 }
 
 // Brackets whose nesting is open.
