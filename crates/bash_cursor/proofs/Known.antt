@@ -1,6 +1,6 @@
 -- What is known of a nesting that was read in vain: what is found among the known ones is known, and so is what it covers.
-use Rattle.std.proofs.Common.{◌≡◌, ℕ, ◌≤◌, Bool, true, false, List, [], ◌∷◌, drop, Option, Some, None, ap, sym, subst, refl}
-use Rattle.std.specs.Prelude.{◌==◌, ◌&&◌, nat_le, cond}
+use Rattle.std.proofs.Common.{◌≡◌, ℕ, ◌≤◌, Bool, true, false, List, [], ◌∷◌, drop, Option, Some, None, Result, Ok, Err, ap, sym, subst, refl}
+use Rattle.std.specs.Prelude.{◌==◌, ◌&&◌, nat_le, cond, OnOk, OnErr}
 use Rattle.std.specs.declared.cmp.Ordering.{Ordering}
 use Rattle.std.specs.declared.cmp.Ordering.TheVariants.{Less, Equal, Greater}
 use Rattle.std.specs.Ordering.{match_ordering}
@@ -14,6 +14,7 @@ use Rattle.grammar_laws.specs.declared.nesting.Nesting.{Nesting}
 use Rattle.grammar_laws.specs.Nestings.{NoReading, number_of}
 use Rattle.grammar_laws.proofs.NoReadings.{more_room, other_marks, numbers_differ}
 use Rattle.bash_cursor.specs.declared.failures.Failure.{Failure}
+use Rattle.bash_cursor.specs.Seen.{Seen}
 use Rattle.bash_cursor.specs.Known.{IsKnown, EachKnown, covers, spot_in}
 
 -- ---- among those that are kept
@@ -44,6 +45,13 @@ module _ {K : Type 0} (text : Text) where
   pub put : (cmp : K → K → Ordering) (es : List (K × Failure)) (k : K) (f : Failure) → EachKnown text es → IsKnown text f → EachKnown text (insert_entry cmp es k f)
   put cmp [] k f a h = (h, tt)
   put cmp (e ∷ es) k f a h = put_at (cmp k e.0) k f e es (insert_entry cmp es k f) h (a.0) (a.1) (put cmp es k f (a.1) h)
+
+-- each that is kept stays known where one more is put among them, or where that fails
+pub kept : {K T E : Type 0} (result : Result T E) (cmp : K → K → Ordering) (old new : List (K × Failure)) (k : K) (f : Failure)
+    → OnOk result (new ≡ insert_entry cmp old k f) → OnErr result (new ≡ old)
+    → (text : Text) → EachKnown text old → IsKnown text f → EachKnown text new
+kept (Ok x) cmp old new k f ok err text a h = subst (EachKnown text) (sym ok) (put text cmp old k f a h)
+kept (Err x) cmp old new k f ok err text a h = subst (EachKnown text) (sym err) a
 
 -- ---- what one covers
 
@@ -80,3 +88,23 @@ pub seen_at : (nesting : Nesting) (text rest : Text) (place line room : ℕ) (wa
 seen_at nesting text rest place line room waiting bodies e h others others_read =
     other_marks nesting room others others_read (spot_in text place line waiting bodies)
     (subst (λ rest. NoReading nesting room (record { rest = rest; place = place; line = line; waiting = waiting; bodies = bodies })) e h)
+
+-- what a cursor saw in vain where it stands is known
+pub seen_by : (nesting : Nesting) (now inside : Seen) (f : Failure) → now ≡ inside → inside.spot.rest ≡ drop inside.spot.place inside.text
+    → NoReading nesting now.room now.spot → f ≡ record { nesting = nesting; place = now.spot.place; line = now.spot.line; room = now.room }
+    → IsKnown inside.text f
+seen_by nesting now inside f v e h s =
+    subst (IsKnown inside.text) (sym s)
+    (subst (λ seen. IsKnown inside.text (record { nesting = nesting; place = seen.spot.place; line = seen.spot.line; room = seen.room })) (sym v)
+    (seen_at nesting inside.text inside.spot.rest inside.spot.place inside.spot.line inside.room inside.spot.waiting inside.spot.bodies e
+    (subst (λ seen. NoReading nesting seen.room seen.spot) v h)))
+
+-- and what is known of the place where it stands holds there
+pub known_by : (nesting : Nesting) (now inside : Seen) (f : Failure) → now ≡ inside → inside.spot.rest ≡ drop inside.spot.place inside.text
+    → f ≡ record { nesting = nesting; place = now.spot.place; line = now.spot.line; room = now.room } → IsKnown inside.text f
+    → NoReading nesting now.room now.spot
+known_by nesting now inside f v e s k =
+    subst (λ seen. NoReading nesting seen.room seen.spot) (sym v)
+    (known_at nesting inside.text inside.spot.rest inside.spot.place inside.spot.line inside.room inside.spot.waiting inside.spot.bodies e
+    (subst (λ seen. IsKnown inside.text (record { nesting = nesting; place = seen.spot.place; line = seen.spot.line; room = seen.room })) v
+    (subst (IsKnown inside.text) s k)))
