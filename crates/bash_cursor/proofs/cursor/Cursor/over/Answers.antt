@@ -1,4 +1,4 @@
-use Rattle.std.proofs.Common.{refl, arith, omega}
+use Rattle.std.proofs.Common.{refl, arith}
 use Rattle.bash_cursor.proofs.cursor.Cursor.over.Goals as goal
 
 pub invariant_of-result : goal.invariant_of-result
