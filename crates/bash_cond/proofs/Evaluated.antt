@@ -12,6 +12,9 @@ use Rattle.shell_state.specs.State.{State}
 use Rattle.shell_state.specs.declared.stop.Stop.{Stop}
 use Rattle.shell_state.specs.declared.stop.Stop.TheVariants as stop
 use Rattle.bash_cond.specs.Arithmetic.{arithmetic_fault, ends_as, evaluates, variables_of, IsArithmeticFault}
+use Rattle.bash_cond.specs.Numbers.{numbers_stand}
+use Rattle.bash_cond.specs.Operators.{stand}
+use Rattle.bash_cond.specs.declared.operator.Relation.{Relation}
 
 -- ---- steps never rise
 
@@ -127,3 +130,8 @@ pub first_stopped : (why : Stop) (o : Outcome ℤ) (u : Text) (f : ℤ → ℤ �
 first_stopped (stop.Fault why) o u f at h = ap (λ p. and_then p (λ m. evaluates u >>= (λ n. pure (f m n)))) h
 first_stopped stop.Failed o u f at h = first_kept o u f at.left h
 first_stopped stop.Memory o u f at h = first_kept o u f at.left h
+
+-- two numbers give no steps back
+pub numbers_kept : (relation : Relation) (t u : Text) (at : State) (k : ℕ) → at.left ≡ k → left_of (numbers_stand relation t u at) ≤ k
+numbers_kept relation t u at k e =
+    first_kept (evaluates t at) u (stand relation) k (let less : left_of (evaluates t at) ≤ at.left = never_rises t at in omega (arith, less, e))

@@ -1,2 +1,4 @@
 pub mod Evaluated
+pub mod Matched
 mod Rows
+pub mod Ruled

@@ -44,10 +44,13 @@ binary_named w =
     else (if bytes_eq w (codes "-ef") then Some op.SameFile
     else None)))))))))))))
 
--- the letter of a word that stands before another one: `-` and any letter but those of `-a` and `-o`
+-- whether these are the sign and the letter of a word that stands before another one: `-` and any letter but those of `-a`
+-- and `-o`
+abbrev pub is_unary : ℕ → ℕ → Bool
+is_unary b letter = b == 45 && is_letter letter && not (letter == 97 || letter == 111)
+
 abbrev pub unary_letter : Text → Option ℕ
-unary_letter (b ∷ letter ∷ []) =
-    if b == 45 && is_letter letter && not (letter == 97 || letter == 111) then Some letter else None
+unary_letter (b ∷ letter ∷ []) = if is_unary b letter then Some letter else None
 unary_letter w = None
 
 -- ---- values
@@ -140,11 +143,18 @@ abbrev pub closed : Verdict → List Text → Option Read
 closed value [] = None
 closed value (w ∷ ws) = if bytes_eq w (codes ")") then Some (record { value = value; rest = ws }) else None
 
+-- the words after this one, where it is the first and a word stands after it
+abbrev pub behind : Text → List Text → Option (List Text)
+behind operator (w ∷ v ∷ ws) = if bytes_eq w operator then Some (v ∷ ws) else None
+behind operator ws = None
+
+abbrev pub group_behind : Rule → Option (List Text) → Option Read
+group_behind or_rule None = None
+group_behind or_rule (Some ws) = closed (or_rule ws).value (or_rule ws).rest
+
 -- "(" or ")"
 abbrev pub group : Rule → List Text → Option Read
-group or_rule (w ∷ v ∷ ws) =
-    if bytes_eq w (codes "(") then closed (or_rule (v ∷ ws)).value (or_rule (v ∷ ws)).rest else None
-group or_rule ws = None
+group or_rule ws = group_behind or_rule (behind (codes "(") ws)
 
 -- the first, or else the second
 infixr 9 ◌</>◌
@@ -156,31 +166,27 @@ Some read </> second = Some read
 abbrev pub prim : Store → Rules → Rule
 prim store further ws = unwrap_or (comparison ws </> question store ws </> group further.or_rule ws) (lone ws)
 
+abbrev pub not_behind : Store → Rules → List Text → Option (List Text) → Read
+not_behind store further ws None = prim store further ws
+not_behind store further ws (Some rest) =
+    record { value = negated (further.not_rule rest).value; rest = (further.not_rule rest).rest }
+
 -- "!" not / prim
 abbrev pub not_in : Store → Rules → Rule
-not_in store further (w ∷ v ∷ ws) =
-    if bytes_eq w (codes "!")
-    then record { value = negated (further.not_rule (v ∷ ws)).value; rest = (further.not_rule (v ∷ ws)).rest }
-    else prim store further (w ∷ v ∷ ws)
-not_in store further ws = prim store further ws
+not_in store further ws = not_behind store further ws (behind (codes "!") ws)
 
--- what stands after this word, where it is there and a word after it, joined to the value that was read
-abbrev pub joined : Text → (Verdict → Verdict → Verdict) → Rule → Verdict → Rule
-joined operator join rule value (w ∷ v ∷ ws) =
-    if bytes_eq w operator
-    then record { value = join value (rule (v ∷ ws)).value; rest = (rule (v ∷ ws)).rest }
-    else record { value = value; rest = w ∷ v ∷ ws }
-joined operator join rule value ws = record { value = value; rest = ws }
+-- what stands behind an operator, if it is there, is joined to what was read
+abbrev pub joined : (Verdict → Verdict → Verdict) → Rule → Read → Option (List Text) → Read
+joined join rule read None = read
+joined join rule read (Some rest) = record { value = join read.value (rule rest).value; rest = (rule rest).rest }
 
 -- not ("-a" and)?, which reads as not ("-a" not)* does
 abbrev pub and_in : Store → Rules → Rule
-and_in store further ws =
-    joined (codes "-a") both further.and_rule (not_in store further ws).value (not_in store further ws).rest
+and_in store further ws = joined both further.and_rule (not_in store further ws) (behind (codes "-a") (not_in store further ws).rest)
 
 -- and ("-o" or)?, which reads as and ("-o" and)* does
 abbrev pub or_in : Store → Rules → Rule
-or_in store further ws =
-    joined (codes "-o") either further.or_rule (and_in store further ws).value (and_in store further ws).rest
+or_in store further ws = joined either further.or_rule (and_in store further ws) (behind (codes "-o") (and_in store further ws).rest)
 
 -- the rules for at most so many words
 unfoldable pub rules : Store → ℕ → Rules

@@ -3,10 +3,18 @@
 #![tactic(auto)]
 
 mod numbers;
+mod one_operand;
 mod operator;
-mod unary;
+mod patterns;
+mod test_rules;
+mod test_words;
+mod two_operands;
 mod value;
 
 pub use numbers::{Numbers, compare_numbers};
+pub use one_operand::text_test;
 pub use operator::{FileRelation, Question, Relation, asks, is_before};
-pub use unary::text_test;
+pub use patterns::{Match, matches};
+pub use test_rules::test_args;
+pub use two_operands::{Operands, binary};
+pub use value::value_of;

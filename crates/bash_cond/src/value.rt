@@ -47,7 +47,7 @@ fn arithmetic_stop(alloc: Global, text: &[u8], error: ArithErr) -> Stop
 /// # Errors
 /// The fault of the text, which it shows whole; `Memory`.
 #[tactic(auto, using(crate::proofs::Evaluated::ended, crate::proofs::Evaluated::stopped))]
-pub(crate) fn value_of<L: Ledger>(
+pub fn value_of<L: Ledger>(
     alloc: Global,
     text: &[u8],
     vars: &mut Vars,

@@ -48,6 +48,9 @@
 //! | `ansi TEXT`; `ansi_value TEXT` | what `$'..'` around the text stands for; `ok` and that, or `Quoting` |
 //! | `fault NAME [FIELD]..` | the text of the fault of a script; a text or a number in decimal for each field |
 //! | `share KIND TEXT` | the kind and the text of what `share` gives of a tree of this kind and text |
+//! | `truth [WORD].. [set NAME=TEXT..]` | the truth of the words of `test`, `true` or `false`, or `fault` and its text |
+//! | `unary LETTER TEXT` | the same of `[[ -LETTER TEXT ]]`, but for `-v` |
+//! | `binary OP TEXT MARKS [steps LIMIT] [NAME=TEXT]..` | the same of `[[ TEXT OP MARKS ]]`, then `steps N` |
 //! | `arith TEXT [steps LIMIT] [GIVEN]..` | `ok N` or the fault, `steps N`, then each variable given or set |
 //! | `read LEVELS TEXT` | `ok` and the number of an expression's instructions, or the refusal's name |
 //!

@@ -1,5 +1,6 @@
 use eb_bytes::Bytes;
 use probe_base::{Answer, Fault, Style, parts, read_texts};
+use probe_conditions::{binary, truth, unary};
 use probe_packages::{
     cut, digest, eapi, entry, form, key, make, names, paths, phase, phases, read_digest, rs,
     signed, test, unquoted, unsigned, version, words,
@@ -46,6 +47,9 @@ fn answer_fields(request: &[u8], fields: &[&[u8]], answer: &mut Answer) -> Resul
         b"make" => make(fields, answer),
         b"fault" => fault(fields, answer),
         b"arith" => arith(fields, answer),
+        b"truth" => truth(fields, answer),
+        b"unary" => unary(fields, answer),
+        b"binary" => binary(fields, answer),
         b"read" => read(fields, answer),
         request => {
             let texts = read_texts(answer.alloc(), fields)?;
