@@ -1,5 +1,7 @@
 pub mod BroughtBack
+mod Built
 mod Closed
+mod Commands
 pub mod CommandsKept
 mod Examples
 mod Given

@@ -1,4 +1,4 @@
-mod Built
+pub mod Built
 mod Closed
 mod Evaluated
 pub mod Frames
