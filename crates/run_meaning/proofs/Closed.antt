@@ -219,28 +219,26 @@ redirs_closed false before inner after e h =
     ∙ ap (λ i. record inner { parts = before.parts; input = i; out = before.out; err = before.err }) (h.input refl)
     ∙ ap (λ w. record w { out = before.out; err = before.err }) e
 
+-- what follows redirections, and then inputs and outputs that are brought back
+after_part : (rs : List Redir) (at p : State) → IsRedirected (take_input rs) (open_in (opened_in opened.Redirs at)) (open_in p) → (o : Outcome End) → EndsClosed p o
+    → EndsClosed at (and_then (and_then o (λ a. change (closed at) >> pure a)) (λ a. change (redirected_back rs at) >> pure a))
+after_part rs at p h (Ended how q) e =
+    back_open (take_input rs) at q
+    ∙ ap (io_open (take_input rs) (open_in at)) e
+    ∙ redirs_closed (take_input rs) (open_in at) (open_in (opened_in opened.Redirs at)) (open_in p) refl h
+after_part rs at p h (Faulted why left asked) e = tt
+
+after_redirs : (rs : List Redir) (f : Doing End) → Closes f → (at : State) (o : Outcome (Unit {0})) → EndsRedirected (take_input rs) (opened_in opened.Redirs at) o
+    → EndsClosed at (and_then (and_then (and_then o (λ _. f)) (λ a. change (closed at) >> pure a)) (λ a. change (redirected_back rs at) >> pure a))
+after_redirs rs f d at (Ended u p) h = after_part rs at p h (f p) (d p)
+after_redirs rs f d at (Faulted why left asked) h = tt
+
 redirected_closed : (sub : Items → Doing Text) → ((l : RedirLayer) → Closes (target sub l)) → (r : Redir) (rs : List Redir) (f : Doing End) → Closes f → Closes (under sub (r ∷ rs) f)
 redirected_closed sub c r rs f d at =
     round_opened at opened.Redirs at
     (λ o. and_then (and_then (and_then o (λ _. redirs sub (r ∷ rs) >> f)) (λ a. change (closed at) >> pure a)) (λ a. change (redirected_back (r ∷ rs) at) >> pure a))
     (is_too_deep opened.Redirs at.opened) refl
-    (after_redirs (redirs sub (r ∷ rs) (opened_in opened.Redirs at)) (redirs_redirected sub c (r ∷ rs) (opened_in opened.Redirs at))) tt
-  where
-    abbrev takes : Bool
-    takes = take_input (r ∷ rs)
-
-    after_part : (p : State) → IsRedirected takes (open_in (opened_in opened.Redirs at)) (open_in p) → (o : Outcome End) → EndsClosed p o
-        → EndsClosed at (and_then (and_then o (λ a. change (closed at) >> pure a)) (λ a. change (redirected_back (r ∷ rs) at) >> pure a))
-    after_part p h (Ended how q) e =
-        back_open takes at q
-        ∙ ap (io_open takes (open_in at)) e
-        ∙ redirs_closed takes (open_in at) (open_in (opened_in opened.Redirs at)) (open_in p) refl h
-    after_part p h (Faulted why left asked) e = tt
-
-    after_redirs : (o : Outcome (Unit {0})) → EndsRedirected takes (opened_in opened.Redirs at) o
-        → EndsClosed at (and_then (and_then (and_then o (λ _. f)) (λ a. change (closed at) >> pure a)) (λ a. change (redirected_back (r ∷ rs) at) >> pure a))
-    after_redirs (Ended u p) h = after_part p h (f p) (d p)
-    after_redirs (Faulted why left asked) h = tt
+    (after_redirs (r ∷ rs) f d at (redirs sub (r ∷ rs) (opened_in opened.Redirs at)) (redirs_redirected sub c (r ∷ rs) (opened_in opened.Redirs at))) tt
 
 -- ---- loops
 

@@ -138,3 +138,153 @@ unknown = simp (built, words.built) refl
 equal_words : runs (said (codes "test") (codes "a" ∷ codes "=" ∷ codes "b" ∷ [])) ≡ Ended Goes (shell 1 49)
 unfolding run spend simple fields marked pieces inside invoked
 equal_words = simp (built, words.built) refl
+
+-- ---- compound commands
+
+-- `{ false; }`, `{ return 3; :; }`
+group_of_one : runs (form (compound.Group (list ((said (codes "false") []) ∷ [])))) ≡ Ended Goes (shell 1 48)
+unfolding run spend simple fields marked pieces inside invoked items opens
+group_of_one = simp (built, words.built) refl
+
+group_returns : runs (form (compound.Group (list ((said (codes "return") (codes "3" ∷ [])) ∷ (said (codes ":") []) ∷ [])))) ≡ Ended Returns (shell 3 48)
+unfolding run spend simple fields marked pieces inside invoked items opens
+group_returns = simp (built, words.built) refl
+
+-- `( false )`, `( return 3; : )`: a jump ends the subshell alone
+subshell_of_one : runs (form (compound.Subshell (list ((said (codes "false") []) ∷ [])))) ≡ Ended Goes (shell 1 48)
+unfolding run spend simple fields marked pieces inside invoked items opens apart subshell
+subshell_of_one = simp (built, words.built) refl
+
+subshell_returns : runs (form (compound.Subshell (list ((said (codes "return") (codes "3" ∷ [])) ∷ (said (codes ":") []) ∷ [])))) ≡ Ended Goes (shell 3 48)
+unfolding run spend simple fields marked pieces inside invoked items opens apart subshell
+subshell_returns = simp (built, words.built) refl
+
+-- `if false; then :; fi`, `if :; then false; fi`, `if false; then :; else return 3; fi`
+if_not : runs (form (compound.If (list ((said (codes "false") []) ∷ [])) (list ((said (codes ":") []) ∷ [])) [] None)) ≡ Ended Goes (shell 0 48)
+unfolding run spend simple fields marked pieces inside invoked items opens
+if_not = simp (built, words.built) refl
+
+if_so : runs (form (compound.If (list ((said (codes ":") []) ∷ [])) (list ((said (codes "false") []) ∷ [])) [] None)) ≡ Ended Goes (shell 1 47)
+unfolding run spend simple fields marked pieces inside invoked items opens
+if_so = simp (built, words.built) refl
+
+if_else : runs (form (compound.If (list ((said (codes "false") []) ∷ [])) (list ((said (codes ":") []) ∷ [])) [] (Some (list ((said (codes "return") (codes "3" ∷ [])) ∷ []))))) ≡ Ended Returns (shell 3 47)
+unfolding run spend simple fields marked pieces inside invoked items opens
+if_else = simp (built, words.built) refl
+
+-- `while break; do :; done`, `while :; do break; done`, `until :; do :; done`
+while_test_breaks : runs (form (compound.While (list ((said (codes "break") []) ∷ [])) (list ((said (codes ":") []) ∷ [])))) ≡ Ended Goes (shell 0 48)
+unfolding run spend simple fields marked pieces inside invoked items opens
+while_test_breaks = simp (built, words.built) refl
+
+while_breaks : runs (form (compound.While (list ((said (codes ":") []) ∷ [])) (list ((said (codes "break") []) ∷ [])))) ≡ Ended Goes (shell 0 46)
+unfolding run spend simple fields marked pieces inside invoked items opens
+while_breaks = simp (built, words.built) refl
+
+until_not : runs (form (compound.Until (list ((said (codes ":") []) ∷ [])) (list ((said (codes ":") []) ∷ [])))) ≡ Ended Goes (shell 0 48)
+unfolding run spend simple fields marked pieces inside invoked items opens
+until_not = simp (built, words.built) refl
+
+-- `for ((;;)) do break; done`: a missing part is 1
+for_arith_breaks : runs (form (compound.ForArith [] [] [] (list ((said (codes "break") []) ∷ [])))) ≡ Ended Goes (shell 0 47)
+unfolding run spend simple fields marked pieces inside invoked items opens
+for_arith_breaks = simp (built, words.built) refl
+
+-- `for i in; do :; done`
+for_no_words : runs (form (compound.For (codes "i") (Some []) (list ((said (codes ":") []) ∷ [])))) ≡ Ended Goes (shell 0 49)
+unfolding run spend simple fields marked pieces inside invoked items opens
+for_no_words = simp (built, words.built) refl
+
+-- `select i; do :; done`
+no_select : runs (form (compound.Select (codes "i") None (list ((said (codes ":") []) ∷ [])))) ≡ Faulted (fault.Unsupported (codes "select")) 49 []
+unfolding run spend simple fields marked pieces inside invoked items opens
+no_select = simp (built, words.built) refl
+
+-- `case a in b) :;; a) false;; esac`, `case a in b) :;; esac`
+case_second : runs (form (compound.Case (word (codes "a")) (roll-Clause (record { first = word (codes "b"); others = []; items = (list ((said (codes ":") []) ∷ [])); end = ends.Break }) ∷ roll-Clause (record { first = word (codes "a"); others = []; items = (list ((said (codes "false") []) ∷ [])); end = ends.Break }) ∷ []))) ≡ Ended Goes (shell 1 48)
+unfolding run spend simple fields marked pieces inside invoked items opens text text_of_pieces pattern
+case_second = simp (built, words.built) refl
+
+case_none : runs (form (compound.Case (word (codes "a")) (roll-Clause (record { first = word (codes "b"); others = []; items = (list ((said (codes ":") []) ∷ [])); end = ends.Break }) ∷ []))) ≡ Ended Goes (shell 0 49)
+unfolding run spend simple fields marked pieces inside invoked items opens text text_of_pieces pattern
+case_none = simp (built, words.built) refl
+
+-- `case a in a) false;& b) return 3;; esac`: `;&` runs the next clause without a test
+case_runs_on : runs (form (compound.Case (word (codes "a")) (roll-Clause (record { first = word (codes "a"); others = []; items = (list ((said (codes "false") []) ∷ [])); end = ends.FallThrough }) ∷ roll-Clause (record { first = word (codes "b"); others = []; items = (list ((said (codes "return") (codes "3" ∷ [])) ∷ [])); end = ends.Break }) ∷ []))) ≡ Ended Returns (shell 3 47)
+unfolding run spend simple fields marked pieces inside invoked items opens text text_of_pieces pattern
+case_runs_on = simp (built, words.built) refl
+
+-- ---- conditions
+
+abbrev only : Not → Or
+only n = record { first = record { first = n; others = [] }; others = [] }
+
+-- `[[ a ]]`, `[[ ! a ]]`
+word_is_true : runs (form (compound.Test (only (not_.Prim (primary.Word (word (codes "a"))))))) ≡ Ended Goes (shell 0 49)
+unfolding run spend simple fields marked pieces inside invoked items opens text text_of_pieces pattern condition truth_in
+word_is_true = simp (built, words.built) refl
+
+not_word : runs (form (compound.Test (only (not_.Not (not_.Prim (primary.Word (word (codes "a")))))))) ≡ Ended Goes (shell 1 49)
+unfolding run spend simple fields marked pieces inside invoked items opens text text_of_pieces pattern condition truth_in
+not_word = simp (built, words.built) refl
+
+-- `[[ -z a ]]`, `[[ -e a ]]`
+zero_length : runs (form (compound.Test (only (not_.Prim (primary.Unary 122 (word (codes "a"))))))) ≡ Ended Goes (shell 1 49)
+unfolding run spend simple fields marked pieces inside invoked items opens text text_of_pieces pattern condition truth_in
+zero_length = simp (built, words.built) refl
+
+no_files : runs (form (compound.Test (only (not_.Prim (primary.Unary 101 (word (codes "a"))))))) ≡ Faulted (fault.FileTest (codes "-e")) 49 []
+unfolding run spend simple fields marked pieces inside invoked items opens text text_of_pieces pattern condition truth_in
+no_files = simp (built, words.built) refl
+
+-- `[[ b < a ]]`, `[[ a == a ]]`, `[[ a =~ b ]]`
+ordered : runs (form (compound.Test (only (not_.Prim (primary.Binary (word (codes "b")) binop.Before (word (codes "a"))))))) ≡ Ended Goes (shell 1 49)
+unfolding run spend simple fields marked pieces inside invoked items opens text text_of_pieces pattern condition truth_in
+ordered = simp (built, words.built) refl
+
+matched_by : runs (form (compound.Test (only (not_.Prim (primary.Binary (word (codes "a")) binop.DoubleEqual (word (codes "a"))))))) ≡ Ended Goes (shell 0 49)
+unfolding run spend simple fields marked pieces inside invoked items opens text text_of_pieces pattern condition truth_in
+matched_by = simp (built, words.built) refl
+
+no_expressions : runs (form (compound.Test (only (not_.Prim (primary.Matches (word (codes "a")) []))))) ≡ Faulted fault.RegexRefused 49 []
+unfolding run spend simple fields marked pieces inside invoked items opens text text_of_pieces pattern condition truth_in
+no_expressions = simp (built, words.built) refl
+
+-- ---- declarations, redirections, substitutions
+
+-- `declare`
+declares_nothing : runs (command.Decl (roll-Decl (record { before = []; name = declaration.Declare; arguments = [] }))) ≡ Ended Goes (shell 0 49)
+unfolding run spend simple fields marked pieces inside invoked declared
+declares_nothing = simp (built, words.built) refl
+
+-- `false >/dev/null`, `: >f`, `: 3>/dev/null`
+dropped : runs (simple_of (codes "false") (tail.Redir (redir.File [] file.Write (word (codes "/dev/null"))) ∷ [])) ≡ Ended Goes (shell 1 49)
+unfolding run spend simple fields marked pieces inside invoked items opens text text_of_pieces pattern
+dropped = simp (built, words.built) refl
+
+not_redirected : runs (simple_of (codes ":") (tail.Redir (redir.File [] file.Write (word (codes "f"))) ∷ [])) ≡ Faulted (fault.RedirectRefused (codes "f")) 49 []
+unfolding run spend simple fields marked pieces inside invoked items opens text text_of_pieces pattern
+not_redirected = simp (built, words.built) refl
+
+not_numbered : runs (simple_of (codes ":") (tail.Redir (redir.File (codes "3") file.Write (word (codes "/dev/null"))) ∷ [])) ≡ Faulted (fault.RedirectRefused (codes "/dev/null")) 49 []
+unfolding run spend simple fields marked pieces inside invoked items opens text text_of_pieces pattern
+not_numbered = simp (built, words.built) refl
+
+-- `$(false)`: no word, and the status of the substitution
+abbrev substituted : Command
+substituted = command.Simple (roll-Simple (record { before = []; tail = Some (roll-Tail (record { first = word_of_pieces (piece.Dollar (dollar.Command (list ((said (codes "false") []) ∷ []))) ∷ []); others = [] })) }))
+
+status_of_substitution : runs substituted ≡ Ended Goes (record (shell 1 47) { last = Some 1 })
+unfolding run spend simple fields marked pieces inside invoked items opens apart substitution
+status_of_substitution = simp (built, words.built, gets) refl
+
+-- ---- scripts
+
+-- an empty script of 128 bytes, and one with `return 3; :`
+empty_script : whole idle no_commands 60 128 (list []) (shell 9 50) ≡ Ended tt (shell 0 47)
+unfolding whole spend items
+empty_script = simp (built, words.built) refl
+
+script_returns : whole idle no_commands 60 0 (list ((said (codes "return") (codes "3" ∷ [])) ∷ (said (codes ":") []) ∷ [])) (shell 9 50) ≡ Ended tt (shell 3 48)
+unfolding whole run spend simple fields marked pieces inside invoked items
+script_returns = simp (built, words.built) refl

@@ -48,7 +48,7 @@ either_same false x y s h g = g
 
 paid_same : (n : ℕ) (s : State) (f : Evaluation) → AlwaysSame f → EndsSame s (paid_from n s f)
 paid_same zero s f h = refl
-paid_same (suc n) s f h = h (record s { left = n })
+paid_same (suc n) s f h = from_same s (record s { left = n }) (f (record s { left = n })) refl (h (record s { left = n }))
 
 text_same : (ev : Text → Evaluation) → ((t : Text) → AlwaysSame (ev t)) → (x : Text) (r : Result (Option Text) VarErr) → AlwaysSame (evaluated_text ev x r)
 text_same ev h x (Ok t) s = paid_same s.left s (ev (unwrap_or t [])) (h (unwrap_or t []))
