@@ -93,8 +93,8 @@ called_closed name args f c at =
     (is_too_deep opened.Call at.opened) refl
     (brought_back (called_back at) at begun (and_then (names_itself name begun) (λ _. f)) (then_closed begun (names_itself name begun) (λ _. f) (names_closed name begun) (λ _. c))
     (λ p e.
-        ap (λ ks. record (open_in p) { frames = ks; parts = at.opened; loops = at.loops }) (popped p.store)
-        ∙ ap (λ w. record w { frames = without_first w.frames; parts = at.opened; loops = at.loops }) e)) tt
+    ap (λ ks. record (open_in p) { frames = ks; parts = at.opened; loops = at.loops }) (popped p.store)
+    ∙ ap (λ w. record w { frames = without_first w.frames; parts = at.opened; loops = at.loops }) e)) tt
 
 sourced_from : (f : Doing End) → Closes f → (at p : State) → SameOpen at p
     → EndsClosed at (and_then (and_then (and_then (opens opened.Source p) (λ _. change script_begins)) (λ _. f)) (λ how. change (script_back at) >> pure how))
