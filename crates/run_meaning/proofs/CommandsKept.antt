@@ -1,5 +1,6 @@
--- Two runs side by side: commands, where the commands inside of them are run in two ways that keep to each other.
-use Rattle.std.proofs.Common.{ℕ, zero, suc, ◌≤◌, List, [], ◌∷◌, ◌++◌, Option, Some, None, Bool, true, false, not, ap, subst, ◌∙◌, length, map, arith}
+-- Commands: what is respected holds of them, where it holds of two ways to run the commands inside of them, and of all
+-- that opens and closes.
+use Rattle.std.proofs.Common.{ℕ, zero, suc, ◌≤◌, List, [], ◌∷◌, ◌++◌, Option, Some, None, Bool, true, false, not, length, map, refl}
 use Rattle.std.specs.Prelude.{if◌then◌else◌, codes}
 use Rattle.std.specs.List.{list_any}
 use Rattle.eb_bytes.specs.Text.{Text}
@@ -26,173 +27,107 @@ use Rattle.eb_syntax.specs.declared.tree.Redir.{Redir, out-Redir}
 use Rattle.eb_syntax.specs.declared.tree.Simple.{Simple, out-Simple}
 use Rattle.eb_syntax.specs.declared.tree.Word.{Word}
 use Rattle.shell_functions.specs.Funcs.{body_of}
-use Rattle.shell_state.specs.Host.{Begins, Begun, Finished, Sourced, Refused, NotMine, Lasts, Later}
-use Rattle.shell_state.specs.Opening.{bringing_back, within}
-use Rattle.shell_state.specs.Output.{prints}
+use Rattle.shell_state.specs.Host.{Begins}
 use Rattle.shell_state.specs.Spending.{script_cost}
 use Rattle.shell_state.specs.State.{State}
-use Rattle.shell_state.specs.Outcome.{Outcome, Ended, Faulted, Doing, ◌>>=◌, ◌>>◌, ◌<$>◌, and_then, pure, refuse, change, left_of, asked_of}
+use Rattle.shell_state.specs.Outcome.{Doing, ◌>>=◌, ◌>>◌, ◌<$>◌, pure, refuse, change}
 use Rattle.shell_state.specs.declared.fault.Fault.{Fault}
 use Rattle.shell_state.specs.declared.fault.Fault.TheVariants as fault
-use Rattle.shell_state.specs.declared.opened.Opened.{Opened}
 use Rattle.shell_state.specs.declared.opened.Opened.TheVariants as opened
-use Rattle.shell_state.proofs.Kept.{here, further, Kept, plain as alike, Part, back_part, bound, opens_part, within_part}
-use Rattle.run_meaning.specs.Assignments.{assigns, binds, expanded, given, prefixed, subscript, with_prefix, without_frame}
+use Rattle.run_meaning.specs.Assignments.{assigns, binds, expanded, given, prefixed, subscript}
 use Rattle.run_meaning.specs.Builtins.{Argument as Said, Assigns, Plain, builtin, declaration_named, is_named}
 use Rattle.run_meaning.specs.Cases.{after_clause, clauses, is_chosen, tried, with_present}
 use Rattle.run_meaning.specs.Compounds.{compound_at, is_missing, is_select, is_zero, number, number_or_one, others_of, words_in}
 use Rattle.run_meaning.specs.Conditions.{all, and_truth, any, binary, condition, not_at, or_truth, primary_at, truth_in}
 use Rattle.run_meaning.specs.Declarations.{after_options, argument_at, argument_of, arguments, declared, declares_arguments, options_of, redirs_in, said}
 use Rattle.run_meaning.specs.Ends.{End, Goes, going, status, succeeded, truth_status}
-use Rattle.run_meaning.specs.Laws.{Alike, Follows, KeepPlain}
 use Rattle.run_meaning.specs.Layers.{ArgumentLayer, CommandLayer, CompoundLayer, NotLayer, PrimaryLayer, RedirLayer}
 use Rattle.run_meaning.specs.Lists.{all_items, each_item, has_more, is_background, is_odd, is_time, items, joined, listed, pipe, runs_on, unless_refused}
 use Rattle.run_meaning.specs.Parts.{assigns_before, command_begins, redirs_before, redirs_of, words_of}
-use Rattle.run_meaning.specs.Redirections.{both_written_to, by_file, by_word, here_body, read_from, redir_at, redirected_back, redirs, under}
+use Rattle.run_meaning.specs.Redirections.{here_body, target, under}
 use Rattle.run_meaning.specs.Run.{command_at, defining}
-use Rattle.run_meaning.specs.Simple.{by_builtin, by_eval, by_function, by_host, by_name, by_plain, call, called_back, entered, evaluated, hosted, invoked, joined_words, last_status, performed, script_back, script_begins, simple, source, stands_alone}
-use Rattle.run_meaning.specs.Subshells.{apart, capturing, output_of, returned, substitution, subshell, trimmed, unchanged, with_last}
+use Rattle.run_meaning.specs.Simple.{by_builtin, by_eval, by_function, by_host, by_name, by_plain, call, evaluated, invoked, joined_words, last_status, performed, simple, source, stands_alone}
+use Rattle.run_meaning.specs.Subshells.{substitution, subshell, trimmed, with_last}
 use Rattle.run_meaning.specs.Values.{GivenArray, GivenText, bound as bound_to, made}
 use Rattle.word_meaning.specs.Lists.{fields}
 use Rattle.word_meaning.specs.Texts.{pattern, text}
-use Rattle.run_meaning.proofs.LoopsKept.{arith_turns_part, for_turns_part, looping_part, while_part}
-use Rattle.run_meaning.proofs.Paid.{Costs, Pays, going_pays, inverted_pays}
-use Rattle.run_meaning.proofs.PartsKept.{SelfIfAny, nothing, something, bind as bind_both, builtin_part, by_state as by_state_both, changed as changed_both, changes_part, compared_part, done as done_both, either as either_both, evaluates_part, going_part, image as image_both, inverted_part, kept, matches_case_part, matches_part, next as next_both, no as no_both, prints_part, redirects_part, refused_part, spends, status_part as status_both, unary_part}
+use Rattle.run_meaning.proofs.Given.{bound_same, made_same}
+use Rattle.run_meaning.proofs.PartsKept.{SelfIfAny, nothing, something, bind as bind_both, builtin_part, by_state as by_state_both, changed as changed_both, changes_part, compared_part, done as done_both, either as either_both, evaluates_part, for_turns_part, going_part, image as image_both, inverted_part, matches_case_part, matches_part, next as next_both, no as no_both, refused_part, spends, status_part as status_both, unary_part}
+use Rattle.run_meaning.proofs.Surrounded.{Surrounded}
+use Rattle.word_meaning.proofs.Respected.{Respected}
 use Rattle.word_meaning.proofs.WordsKept.{arith_part, assigned_part, elements_part, fields_part, here_part, pattern_part, subscript_part, text_part}
 
--- ---- a jump has paid
-
-module _ (most : ℕ) (again : Command → Doing End) (costs : (c : Command) (at : State) → at.left ≤ most → Costs at.left (again c at)) where
-  refused_pays : (b : Bool) (why : Fault) (f : Doing End) (at : State) → Pays at.left (f at) → Pays at.left (unless_refused b why f at)
-  refused_pays true why f at p = tt
-  refused_pays false why f at p = p
-
-  pipe_pays : (p : Pipe) (at : State) → at.left ≤ most → Pays at.left (pipe again p at)
-  pipe_pays p at le =
-      refused_pays (list_any is_time p.marks) _ _ at (refused_pays (has_more p.others) _ _ at (inverted_pays at.left (is_odd (length p.marks)) (again p.first at) (costs p.first at le)))
-
-  if_pays : (b : Bool) (f g : Doing End) (at : State) → Pays at.left (f at) → Pays at.left (g at) → Pays at.left ((if b then f else g) at)
-  if_pays true f g at p q = p
-  if_pays false f g at p q = q
-
-  joined_pays : (js : List Joined) (at : State) → at.left ≤ most → Pays at.left (joined again js at)
-  joined_pays [] at le = omega arith
-  joined_pays (j ∷ js) at le =
-      if_pays (runs_on j.junction at) _ _ at
-      (going_pays at.left (pipe again j.pipe at) (joined again js) (pipe_pays j.pipe at le) (λ p l. joined_pays js p (omega (arith, l, le))))
-      (joined_pays js at le)
-
-  listed_pays : (i : Item) (at : State) → at.left ≤ most → Pays at.left (listed again i at)
-  listed_pays i at le =
-      refused_pays (is_background i.end) _ _ at
-      (going_pays at.left (pipe again i.list.first at) (joined again i.list.others) (pipe_pays i.list.first at le) (λ p l. joined_pays i.list.others p (omega (arith, l, le))))
-
-  each_pays : (is : List Item) (at : State) → at.left ≤ most → Pays at.left (each_item again is at)
-  each_pays [] at le = omega arith
-  each_pays (i ∷ is) at le = going_pays at.left (listed again i at) (each_item again is) (listed_pays i at le) (λ p l. each_pays is p (omega (arith, l, le)))
-
-  all_pay : (is : List Item) (at : State) → at.left ≤ most → Pays at.left (all_items again is at)
-  all_pay [] at le = omega arith
-  all_pay (i ∷ is) at le = each_pays (i ∷ is) at le
-
-  pub items_pay : (i : Items) (at : State) → at.left ≤ most → Pays at.left (items again i at)
-  unfolding items
-  items_pay i at le = all_pay (out-Items i).items at le
-
--- ---- commands
-
-module _ (Agrees : List Text → Type 0) (front : (xs ys : List Text) → Agrees (xs ++ ys) → Agrees xs) (m n : ℕ) where
+module _ (R : (A : Type 0) → Doing A → Doing A → Type 0) (respected : Respected R) where
   abbrev Both : {A : Type 0} → Doing A → Doing A → Type 0
-  Both {A} f g = Part Agrees front m n {A = A} f g
+  Both {A} f g = R A f g
 
   done : {A : Type 0} (a : A) → Both (pure a) (pure a)
-  done a = done_both Agrees front m n a
+  done a = done_both R respected a
 
   no : {A : Type 0} (why : Fault) → Both {A = A} (refuse why) (refuse why)
-  no why = no_both Agrees front m n why
+  no why = no_both R respected why
 
   bind : {A B : Type 0} (f g : Doing A) (h j : A → Doing B) → Both f g → ((a : A) → Both (h a) (j a)) → Both (f >>= h) (g >>= j)
-  bind f g h j = bind_both Agrees front m n f g h j
+  bind f g h j = bind_both R respected f g h j
 
   next : {A B : Type 0} (f g : Doing A) (h j : Doing B) → Both f g → Both h j → Both (f >> h) (g >> j)
-  next f g h j = next_both Agrees front m n f g h j
+  next f g h j = next_both R respected f g h j
 
   image : {A B : Type 0} (f g : Doing A) (h : A → B) → Both f g → Both (h <$> f) (h <$> g)
-  image f g h = image_both Agrees front m n f g h
-
-  changed : (f : State → State) → Both (change f) (change f)
-  changed f = changed_both Agrees front m n f
+  image f g h = image_both R respected f g h
 
   by_state : {A : Type 0} (f g : State → Doing A) → ((x : State) → Both (f x) (g x)) → Both (λ at. f at at) (λ at. g at at)
-  by_state f g = by_state_both Agrees front m n f g
+  by_state f g = by_state_both R respected f g
 
   either : {A : Type 0} (b : Bool) (f g h j : Doing A) → Both f g → Both h j → Both (if b then f else h) (if b then g else j)
-  either b f g h j = either_both Agrees front m n b f g h j
-
-  back : {A : Type 0} (b : State → State → State) (f g : Doing A) → Both f g → Both (bringing_back b f) (bringing_back b g)
-  back b f g = back_part Agrees front m n b f g
-
-  inside : {A : Type 0} (o : Opened) (f g : Doing A) → Both f g → Both (within o f) (within o g)
-  inside o f g = within_part Agrees front m n o f g
+  either b f g h j = either_both R respected b f g h j
 
   status_part : (s : ℕ) → Both (status s) (status s)
-  status_part s = status_both Agrees front m n s
+  status_part s = status_both R respected s
 
   going_on : (f g : Doing End) → Both f g → (e : End) → Both (going f e) (going g e)
-  going_on f g p e = going_part Agrees front m n f g p e
+  going_on f g p e = going_part R respected f g p e
 
   -- ---- words with what stands round them: two ways to run substitutions
 
   module _ (sub tub : Items → Doing Text) (k : (i : Items) → Both (sub i) (tub i)) where
     word_text : (w : Word) → Both (text sub w) (text tub w)
-    word_text w = text_part Agrees front m n sub tub k w
+    word_text w = text_part R respected sub tub k w
 
     word_fields : (ws : List Word) → Both (fields sub ws) (fields tub ws)
-    word_fields ws = fields_part Agrees front m n sub tub k ws
+    word_fields ws = fields_part R respected sub tub k ws
 
     word_pattern : (w : Word) → Both (pattern sub w) (pattern tub w)
-    word_pattern w = pattern_part Agrees front m n sub tub k w
+    word_pattern w = pattern_part R respected sub tub k w
 
     here_body_part : (h : Option HereText) → Both (here_body sub h) (here_body tub h)
     here_body_part None = done []
-    here_body_part (Some h) = here_part Agrees front m n sub tub k h
+    here_body_part (Some h) = here_part R respected sub tub k h
 
-    redir_part : (r : RedirLayer) → Both (redir_at sub r) (redir_at tub r)
-    redir_part (Redir-F.Redir::Word digits by w) = bind _ _ _ _ (word_text w) (λ t. redirects_part Agrees front m n (by_word by digits t) t)
-    redir_part (Redir-F.Here digits which w mark body) = bind _ _ _ _ (here_body_part body) (λ t. redirects_part Agrees front m n (read_from digits t) t)
-    redir_part (Redir-F.File digits by w) = bind _ _ _ _ (word_text w) (λ t. redirects_part Agrees front m n (by_file by digits t) t)
-    redir_part (Redir-F.Both which w) = bind _ _ _ _ (word_text w) (λ t. redirects_part Agrees front m n (both_written_to t) t)
-
-    redirs_part : (rs : List Redir) → Both (redirs sub rs) (redirs tub rs)
-    redirs_part [] = done tt
-    redirs_part (r ∷ rs) = next _ _ _ _ (redir_part (out-Redir r)) (redirs_part rs)
-
-    under_part : {A : Type 0} (rs : List Redir) (f g : Doing A) → Both f g → Both (under sub rs f) (under tub rs g)
-    under_part [] f g p = p
-    under_part (r ∷ rs) f g p = back (redirected_back (r ∷ rs)) _ _ (inside opened.Redirs _ _ (next _ _ _ _ (redirs_part (r ∷ rs)) p))
+    target_part : (r : RedirLayer) → Both (target sub r) (target tub r)
+    target_part (Redir-F.Redir::Word digits by w) = word_text w
+    target_part (Redir-F.Here digits which w mark body) = here_body_part body
+    target_part (Redir-F.File digits by w) = word_text w
+    target_part (Redir-F.Both which w) = word_text w
 
     index_part : (s : Option Subscript) → Both (subscript sub s) (subscript tub s)
     index_part None = done None
-    index_part (Some s) = image _ _ Some (bind _ _ _ _ (subscript_part Agrees front m n sub tub k s) (λ t. evaluates_part Agrees front m n t))
+    index_part (Some s) = image _ _ Some (bind _ _ _ _ (subscript_part R respected sub tub k s) (λ t. evaluates_part R respected t))
 
     given_part : (v : Assigned) → Both (given sub v) (given tub v)
-    given_part (assigned.Text w) = image _ _ GivenText (assigned_part Agrees front m n sub tub k w)
-    given_part (assigned.Array ws) = image _ _ GivenArray (elements_part Agrees front m n sub tub k ws)
+    given_part (assigned.Text w) = image _ _ GivenText (assigned_part R respected sub tub k w)
+    given_part (assigned.Array ws) = image _ _ GivenArray (elements_part R respected sub tub k ws)
 
     expanded_part : (a : Assign) → Both (expanded sub a) (expanded tub a)
     expanded_part a = bind _ _ _ _ (index_part (out-Assign a).sub) (λ at. bind _ _ _ _ (given_part (out-Assign a).value) (λ v. done _))
 
     assigns_part : (as' : List Assign) → Both (assigns sub as') (assigns tub as')
     assigns_part [] = done tt
-    assigns_part (a ∷ more) = next _ _ _ _ (bind _ _ _ _ (expanded_part a) (λ x. changes_part Agrees front m n x.name (made x))) (assigns_part more)
+    assigns_part (a ∷ more) = next _ _ _ _ (bind _ _ _ _ (expanded_part a) (λ x. changes_part R respected x.name (made x) (made_same x))) (assigns_part more)
 
     binds_part : (as' : List Assign) → Both (binds sub as') (binds tub as')
     binds_part [] = done tt
-    binds_part (a ∷ more) = next _ _ _ _ (bind _ _ _ _ (expanded_part a) (λ x. changes_part Agrees front m n x.name (bound_to x))) (binds_part more)
-
-    prefixed_part : {A : Type 0} (as' : List Assign) (f g : Doing A) → Both f g → Both (prefixed sub as' f) (prefixed tub as' g)
-    prefixed_part [] f g p = p
-    prefixed_part (a ∷ more) f g p = back without_frame _ _ (next _ _ _ _ (next _ _ _ _ (changed with_prefix) (binds_part (a ∷ more))) p)
+    binds_part (a ∷ more) = next _ _ _ _ (bind _ _ _ _ (expanded_part a) (λ x. changes_part R respected x.name (bound_to x) (bound_same x))) (binds_part more)
 
     -- arguments of declarations
 
@@ -213,12 +148,12 @@ module _ (Agrees : List Text → Type 0) (front : (xs ys : List Text) → Agrees
     -- conditions
 
     binary_part : (q : Question) (a b : Word) → Both (binary sub q a b) (binary tub q a b)
-    binary_part Same a b = bind _ _ _ _ (word_text a) (λ t. bind _ _ _ _ (word_pattern b) (λ ms. matches_part Agrees front m n true ms t))
-    binary_part Different a b = image _ _ not (bind _ _ _ _ (word_text a) (λ t. bind _ _ _ _ (word_pattern b) (λ ms. matches_part Agrees front m n true ms t)))
-    binary_part Before a b = bind _ _ _ _ (word_text a) (λ t. bind _ _ _ _ (word_text b) (λ u. compared_part Agrees front m n Before t u))
-    binary_part After a b = bind _ _ _ _ (word_text a) (λ t. bind _ _ _ _ (word_text b) (λ u. compared_part Agrees front m n After t u))
-    binary_part (Numbers r) a b = bind _ _ _ _ (word_text a) (λ t. bind _ _ _ _ (word_text b) (λ u. compared_part Agrees front m n (Numbers r) t u))
-    binary_part (Files r) a b = bind _ _ _ _ (word_text a) (λ t. bind _ _ _ _ (word_text b) (λ u. compared_part Agrees front m n (Files r) t u))
+    binary_part Same a b = bind _ _ _ _ (word_text a) (λ t. bind _ _ _ _ (word_pattern b) (λ ms. matches_part R respected true ms t))
+    binary_part Different a b = image _ _ not (bind _ _ _ _ (word_text a) (λ t. bind _ _ _ _ (word_pattern b) (λ ms. matches_part R respected true ms t)))
+    binary_part Before a b = bind _ _ _ _ (word_text a) (λ t. bind _ _ _ _ (word_text b) (λ u. compared_part R respected Before t u))
+    binary_part After a b = bind _ _ _ _ (word_text a) (λ t. bind _ _ _ _ (word_text b) (λ u. compared_part R respected After t u))
+    binary_part (Numbers r) a b = bind _ _ _ _ (word_text a) (λ t. bind _ _ _ _ (word_text b) (λ u. compared_part R respected (Numbers r) t u))
+    binary_part (Files r) a b = bind _ _ _ _ (word_text a) (λ t. bind _ _ _ _ (word_text b) (λ u. compared_part R respected (Files r) t u))
 
     module _ (f g : Not → Doing Bool) (p : (t : Not) → Both (f t) (g t)) where
       all_part : (ts : List Not) → Both (all sub f ts) (all tub g ts)
@@ -237,7 +172,7 @@ module _ (Agrees : List Text → Type 0) (front : (xs ys : List Text) → Agrees
 
       primary_part : (l : PrimaryLayer) → Both (primary_at sub f l) (primary_at tub g l)
       primary_part (Primary-F.Primary::Group o) = or_part o
-      primary_part (Primary-F.Unary letter w) = bind _ _ _ _ (word_text w) (λ t. unary_part Agrees front m n letter t)
+      primary_part (Primary-F.Unary letter w) = bind _ _ _ _ (word_text w) (λ t. unary_part R respected letter t)
       primary_part (Primary-F.Primary::Word w) = bind _ _ _ _ (word_text w) (λ t. done _)
       primary_part (Primary-F.Matches w r) = no fault.RegexRefused
       primary_part (Primary-F.Binary a op b) = binary_part (asks op) a b
@@ -260,15 +195,15 @@ module _ (Agrees : List Text → Type 0) (front : (xs ys : List Text) → Agrees
   module _ (again other : Command → Doing End) (k : (c : Command) → Both (again c) (other c)) where
     pipe_part : (p : Pipe) → Both (pipe again p) (pipe other p)
     pipe_part p =
-        refused_part Agrees front m n (list_any is_time p.marks) _ _ _
-        (refused_part Agrees front m n (has_more p.others) _ _ _ (bind _ _ _ _ (k p.first) (inverted_part Agrees front m n (is_odd (length p.marks)))))
+        refused_part R respected (list_any is_time p.marks) _ _ _
+        (refused_part R respected (has_more p.others) _ _ _ (bind _ _ _ _ (k p.first) (inverted_part R respected (is_odd (length p.marks)))))
 
     joined_part : (js : List Joined) → Both (joined again js) (joined other js)
     joined_part [] = done Goes
     joined_part (j ∷ js) = by_state _ _ (λ at. either (runs_on j.junction at) _ _ _ _ (bind _ _ _ _ (pipe_part j.pipe) (going_on _ _ (joined_part js))) (joined_part js))
 
     listed_part : (i : Item) → Both (listed again i) (listed other i)
-    listed_part i = refused_part Agrees front m n (is_background i.end) _ _ _ (bind _ _ _ _ (pipe_part i.list.first) (going_on _ _ (joined_part i.list.others)))
+    listed_part i = refused_part R respected (is_background i.end) _ _ _ (bind _ _ _ _ (pipe_part i.list.first) (going_on _ _ (joined_part i.list.others)))
 
     each_item_part : (is : List Item) → Both (each_item again is) (each_item other is)
     each_item_part [] = done Goes
@@ -282,217 +217,167 @@ module _ (Agrees : List Text → Type 0) (front : (xs ys : List Text) → Agrees
     unfolding items
     items_part i = all_items_part (out-Items i).items
 
-    apart_part : (s : State → State) (f g : Doing End) → Both f g → Both (apart s f) (apart s g)
-    unfolding apart
-    apart_part s f g p at le lf =
-        bound Agrees front m n _ _ at _ _ (next _ _ _ _ (next _ _ _ _ (opens_part Agrees front m n opened.Sub) (changed s)) p at le lf)
-        (λ how q l. alike Agrees front q (Ended (output_of at q) (returned at q)) (here q))
+    -- ---- what is opened and closed
 
-    substitution_part : (i : Items) → Both (substitution again i) (substitution other i)
-    unfolding substitution
-    substitution_part i =
-        bind _ _ _ _ (next _ _ _ _ (spends Agrees front m n 1) (apart_part capturing _ _ (items_part i))) (λ t. next _ _ _ _ (changed with_last) (done (trimmed t)))
+    module _ (m n : ℕ) (plain : Plain) (b c : Begins) (round : Surrounded R m n plain b c again other) where
+      substitution_part : (i : Items) → Both (substitution again i) (substitution other i)
+      unfolding substitution
+      substitution_part i =
+          bind _ _ _ _ (next _ _ _ _ (spends R respected 1) (round.captured _ _ (items_part i))) (λ t. next _ _ _ _ (changed_both R respected with_last (λ at. refl)) (done (trimmed t)))
 
-    subshell_part : (i : Items) → Both (subshell again i) (subshell other i)
-    unfolding subshell
-    subshell_part i = next _ _ _ _ (apart_part unchanged _ _ (items_part i)) (done Goes)
+      subshell_part : (i : Items) → Both (subshell again i) (subshell other i)
+      unfolding subshell
+      subshell_part i = next _ _ _ _ (round.copied _ _ (items_part i)) (done Goes)
 
-    call_part : (plain : Plain) (b c : Begins) (name : Text) (args : List Text) (body : Command) → Both (call plain b again name args body) (call plain c other name args body)
-    unfolding call
-    call_part plain b c name args body =
-        next _ _ _ _ (back called_back _ _ (next _ _ _ _ (next _ _ _ _ (next _ _ _ _ (opens_part Agrees front m n opened.Call) (changed (entered args)))
-        (changes_part Agrees front m n _ _)) (k body))) (done Goes)
+      call_part : (name : Text) (args : List Text) (body : Command) → Both (call plain b again name args body) (call plain c other name args body)
+      unfolding call
+      call_part name args body = next _ _ _ _ (round.called name args _ _ (k body)) (done Goes)
 
-    source_part : (plain : Plain) (b c : Begins) (i : Items) (bytes : ℕ) → Both (source plain b again i bytes) (source plain c other i bytes)
-    unfolding source
-    source_part plain b c i bytes =
-        next _ _ _ _ (back script_back _ _ (next _ _ _ _ (next _ _ _ _ (next _ _ _ _ (spends Agrees front m n (script_cost bytes)) (opens_part Agrees front m n opened.Source))
-        (changed script_begins)) (items_part i))) (done tt)
+      source_part : (i : Items) (bytes : ℕ) → Both (source plain b again i bytes) (source plain c other i bytes)
+      unfolding source
+      source_part i bytes = next _ _ _ _ (round.sourced bytes _ _ (items_part i)) (done tt)
 
-    evaluated_part : (plain : Plain) (b c : Begins) (t : Text) (r : Reading) → Both (evaluated plain b again t r) (evaluated plain c other t r)
-    evaluated_part plain b c t (Node i) = next _ _ _ _ (spends Agrees front m n (script_cost (length t))) (inside opened.Eval _ _ (items_part i))
-    evaluated_part plain b c t (Unread line) = no (fault.EvalRefused line)
-    evaluated_part plain b c t (TooDeep line) = no (fault.EvalDeep line)
+      evaluated_part : (t : Text) (r : Reading) → Both (evaluated plain b again t r) (evaluated plain c other t r)
+      evaluated_part t (Node i) = next _ _ _ _ (spends R respected (script_cost (length t))) (round.inside opened.Eval _ _ (items_part i))
+      evaluated_part t (Unread line) = no (fault.EvalRefused line)
+      evaluated_part t (TooDeep line) = no (fault.EvalDeep line)
 
-    -- ---- `case`
+      under_part : (rs : List Redir) (f g : Doing End) → Both f g → Both (under (substitution again) rs f) (under (substitution other) rs g)
+      under_part [] f g p = p
+      under_part (r ∷ rs) f g p =
+          round.redirected (substitution again) (substitution other) (target_part (substitution again) (substitution other) substitution_part) r rs f g p
 
-    after_clause_part : (e : ClauseEnd) (f g h j : Doing End) → Both f g → Both h j → Both (after_clause e f h) (after_clause e g j)
-    after_clause_part clause.Continue f g h j p q = p
-    after_clause_part clause.Break f g h j p q = done Goes
-    after_clause_part clause.FallThrough f g h j p q = q
-    after_clause_part clause.Ahead f g h j p q = done Goes
+      prefixed_part : (as' : List Assign) (f g : Doing End) → Both f g → Both (prefixed (substitution again) as' f) (prefixed (substitution other) as' g)
+      prefixed_part [] f g p = p
+      prefixed_part (a ∷ more) f g p = round.framed _ _ f g (binds_part (substitution again) (substitution other) substitution_part (a ∷ more)) p
 
-    tried_part : (t : Text) (ws : List Word) → Both (tried again t ws) (tried other t ws)
-    tried_part t [] = done false
-    tried_part t (w ∷ ws) =
-        bind _ _ _ _ (bind _ _ _ _ (word_pattern (substitution again) (substitution other) substitution_part w) (λ ms. matches_case_part Agrees front m n t ms))
-        (λ b. either b _ _ _ _ (done true) (tried_part t ws))
+      -- ---- `case`
 
-    chosen_part : (runs : Bool) (t : Text) (c : Clause) → Both (is_chosen again runs t c) (is_chosen other runs t c)
-    chosen_part true t c = done true
-    chosen_part false t c = tried_part t ((out-Clause c).first ∷ (out-Clause c).others)
+      after_clause_part : (e : ClauseEnd) (f g h j : Doing End) → Both f g → Both h j → Both (after_clause e f h) (after_clause e g j)
+      after_clause_part clause.Continue f g h j p q = p
+      after_clause_part clause.Break f g h j p q = done Goes
+      after_clause_part clause.FallThrough f g h j p q = q
+      after_clause_part clause.Ahead f g h j p q = done Goes
 
-    present_part : (f g : ℕ → Doing End) → ((s : ℕ) → Both (f s) (g s)) → Both (with_present f) (with_present g)
-    present_part f g p = by_state _ _ (λ at. p at.status)
+      tried_part : (t : Text) (ws : List Word) → Both (tried again t ws) (tried other t ws)
+      tried_part t [] = done false
+      tried_part t (w ∷ ws) =
+          bind _ _ _ _ (bind _ _ _ _ (word_pattern (substitution again) (substitution other) substitution_part w) (λ ms. matches_case_part R respected t ms))
+          (λ b. either b _ _ _ _ (done true) (tried_part t ws))
 
-    clauses_part : (runs : Bool) (last : ℕ) (t : Text) (cs : List Clause) → Both (clauses again runs last t cs) (clauses other runs last t cs)
-    clauses_part runs last t [] = status_part last
-    clauses_part runs last t (c ∷ cs) =
-        bind _ _ _ _ (chosen_part runs t c) (λ chosen. either chosen _ _ _ _
-        (bind _ _ _ _ (items_part (out-Clause c).items) (going_on _ _ (after_clause_part (out-Clause c).end _ _ _ _
-        (present_part _ _ (λ s. clauses_part false s t cs)) (present_part _ _ (λ s. clauses_part true s t cs)))))
-        (clauses_part false last t cs))
+      chosen_part : (runs : Bool) (t : Text) (c : Clause) → Both (is_chosen again runs t c) (is_chosen other runs t c)
+      chosen_part true t c = done true
+      chosen_part false t c = tried_part t ((out-Clause c).first ∷ (out-Clause c).others)
 
-    -- ---- compound commands: m and n are the turns that may be made
+      present_part : (f g : ℕ → Doing End) → ((s : ℕ) → Both (f s) (g s)) → Both (with_present f) (with_present g)
+      present_part f g p = by_state _ _ (λ at. p at.status)
 
-    others_part : (es : List Elif) (o : Option Items) → Both (others_of again es o) (others_of other es o)
-    others_part [] None = status_part 0
-    others_part [] (Some i) = items_part i
-    others_part (e ∷ es) o = bind _ _ _ _ (items_part e.test) (going_on _ _ (by_state _ _ (λ at. either (succeeded at) _ _ _ _ (items_part e.body) (others_part es o))))
+      clauses_part : (runs : Bool) (last : ℕ) (t : Text) (cs : List Clause) → Both (clauses again runs last t cs) (clauses other runs last t cs)
+      clauses_part runs last t [] = status_part last
+      clauses_part runs last t (c ∷ cs) =
+          bind _ _ _ _ (chosen_part runs t c) (λ chosen. either chosen _ _ _ _
+          (bind _ _ _ _ (items_part (out-Clause c).items) (going_on _ _ (after_clause_part (out-Clause c).end _ _ _ _
+          (present_part _ _ (λ s. clauses_part false s t cs)) (present_part _ _ (λ s. clauses_part true s t cs)))))
+          (clauses_part false last t cs))
 
-    words_in_part : (ws : Option (List Word)) → Both (words_in again ws) (words_in other ws)
-    words_in_part None = by_state _ _ (λ at. done at.args)
-    words_in_part (Some ws) = word_fields (substitution again) (substitution other) substitution_part ws
+      -- ---- compound commands: m and n are the turns that may be made
 
-    number_part : (t : ArithText) → Both (number again t) (number other t)
-    number_part t = bind _ _ _ _ (arith_part Agrees front m n (substitution again) (substitution other) substitution_part t) (λ u. evaluates_part Agrees front m n u)
+      others_part : (es : List Elif) (o : Option Items) → Both (others_of again es o) (others_of other es o)
+      others_part [] None = status_part 0
+      others_part [] (Some i) = items_part i
+      others_part (e ∷ es) o = bind _ _ _ _ (items_part e.test) (going_on _ _ (by_state _ _ (λ at. either (succeeded at) _ _ _ _ (items_part e.body) (others_part es o))))
 
-    number_or_one_part : (t : ArithText) → Both (number_or_one again t) (number_or_one other t)
-    number_or_one_part t = either (is_missing t) _ _ _ _ (done _) (number_part t)
+      words_in_part : (ws : Option (List Word)) → Both (words_in again ws) (words_in other ws)
+      words_in_part None = by_state _ _ (λ at. done at.args)
+      words_in_part (Some ws) = word_fields (substitution again) (substitution other) substitution_part ws
 
-    module _ (costs : (c : Command) (at : State) → at.left ≤ m → Costs at.left (again c at)) where
+      number_part : (t : ArithText) → Both (number again t) (number other t)
+      number_part t = bind _ _ _ _ (arith_part R respected (substitution again) (substitution other) substitution_part t) (λ u. evaluates_part R respected u)
+
+      number_or_one_part : (t : ArithText) → Both (number_or_one again t) (number_or_one other t)
+      number_or_one_part t = either (is_missing t) _ _ _ _ (done _) (number_part t)
+
       compound_part : (l : CompoundLayer) → Both (compound_at again m l) (compound_at other n l)
-      compound_part (Compound-F.Compound::Group i) = inside opened.Compound _ _ (items_part i)
-      compound_part (Compound-F.Compound::Arith t) = inside opened.Compound _ _ (bind _ _ _ _ (number_part t) (λ v. status_part (truth_status (not (is_zero v)))))
+      compound_part (Compound-F.Compound::Group i) = round.inside opened.Compound _ _ (items_part i)
+      compound_part (Compound-F.Compound::Arith t) = round.inside opened.Compound _ _ (bind _ _ _ _ (number_part t) (λ v. status_part (truth_status (not (is_zero v)))))
       compound_part (Compound-F.Subshell i) = subshell_part i
       compound_part (Compound-F.If test body others o) =
-          inside opened.Compound _ _ (bind _ _ _ _ (items_part test) (going_on _ _ (by_state _ _ (λ at. either (succeeded at) _ _ _ _ (items_part body) (others_part others o)))))
+          round.inside opened.Compound _ _ (bind _ _ _ _ (items_part test) (going_on _ _ (by_state _ _ (λ at. either (succeeded at) _ _ _ _ (items_part body) (others_part others o)))))
       compound_part (Compound-F.While test body) =
-          inside opened.Compound _ _ (looping_part Agrees front m n _ _ (while_part Agrees front m n false 0 _ _ _ _ (items_pay m again costs test) (items_part test) (items_part body)))
+          round.inside opened.Compound _ _ (round.loops _ _ (round.whiles false test body (items_part test) (items_part body)))
       compound_part (Compound-F.Until test body) =
-          inside opened.Compound _ _ (looping_part Agrees front m n _ _ (while_part Agrees front m n true 0 _ _ _ _ (items_pay m again costs test) (items_part test) (items_part body)))
+          round.inside opened.Compound _ _ (round.loops _ _ (round.whiles true test body (items_part test) (items_part body)))
       compound_part (Compound-F.ForArith a b c body) =
-          inside opened.Compound _ _ (next _ _ _ _ (number_or_one_part a) (looping_part Agrees front m n _ _ (arith_turns_part Agrees front m n 0 _ _ _ _ _ _
+          round.inside opened.Compound _ _ (next _ _ _ _ (number_or_one_part a) (round.loops _ _ (round.counts _ _ _ _ _ _
           (image _ _ _ (number_or_one_part b)) (items_part body) (next _ _ _ _ (number_or_one_part c) (done tt)))))
       compound_part (Compound-F.For x ws body) =
-          bind _ _ _ _ (words_in_part ws) (λ ts. inside opened.Compound _ _ (looping_part Agrees front m n _ _ (for_turns_part Agrees front m n x _ _ (items_part body) 0 ts)))
+          bind _ _ _ _ (words_in_part ws) (λ ts. round.inside opened.Compound _ _ (round.loops _ _ (for_turns_part R respected x _ _ (items_part body) 0 ts)))
       compound_part (Compound-F.Select x ws body) = no _
       compound_part (Compound-F.Compound::Case w cs) =
-          inside opened.Compound _ _ (bind _ _ _ _ (word_text (substitution again) (substitution other) substitution_part w) (λ t. clauses_part false 0 t cs))
+          round.inside opened.Compound _ _ (bind _ _ _ _ (word_text (substitution again) (substitution other) substitution_part w) (λ t. clauses_part false 0 t cs))
       compound_part (Compound-F.Test o) =
-          inside opened.Compound _ _ (bind _ _ _ _ (condition_part (substitution again) (substitution other) substitution_part o) (λ b. status_part (truth_status b)))
+          round.inside opened.Compound _ _ (bind _ _ _ _ (condition_part (substitution again) (substitution other) substitution_part o) (λ b. status_part (truth_status b)))
 
-      -- ---- commands by their names, with a host each
+      -- ---- commands by their names
 
-      module _ (plain : Plain) (keeps : KeepPlain plain) (b c : Begins) (bc : Alike Agrees b c) where
-        later_bound : {A B : Type 0} (h : A → Doing B) (at : State) (r : Outcome A) → Later at (left_of r) (asked_of r)
-            → ((a : A) (p : State) → p.left ≤ at.left → Later p (left_of (h a p)) (asked_of (h a p))) → Later at (left_of (and_then r h)) (asked_of (and_then r h))
-        later_bound h at (Ended a p) l e = further at p (left_of (h a p)) (asked_of (h a p)) l (e a p l.less)
-        later_bound h at (Faulted f left asked) l e = l
+      by_host_part : (alone : Bool) (name : Text) (args : List Text) → Both (by_host plain b again alone name args) (by_host plain c other alone name args)
+      by_host_part alone name args =
+          bind _ _ _ _ (round.hosts alone name args source_part) (λ s. status_part s)
 
-        abbrev first : Items → ℕ → Doing (Unit {0})
-        first i bytes = source plain b again i bytes
+      by_plain_part : (alone : Bool) (name : Text) (args : List Text) → Both (by_plain plain b again alone name args) (by_plain plain c other alone name args)
+      by_plain_part alone name args =
+          either (plain.is_plain name) _ _ _ _ (bind _ _ _ _ (round.acts name args) (λ s. status_part s)) (by_host_part alone name args)
 
-        abbrev second : Items → ℕ → Doing (Unit {0})
-        second i bytes = source plain c other i bytes
+      by_builtin_part : (alone : Bool) (name : Text) (args : List Text) (x : Option (Doing End)) → SelfIfAny R respected x → Both (by_builtin plain b again alone name args x) (by_builtin plain c other alone name args x)
+      by_builtin_part alone name args x nothing = by_plain_part alone name args
+      by_builtin_part alone name args x (something f p) = p
 
-        printed : (s : ℕ) (out : Text) → Both (prints out >> pure s) (prints out >> pure s)
-        printed s out = next _ _ _ _ (prints_part Agrees front m n out) (done s)
+      by_eval_part : (alone : Bool) (name : Text) (args : List Text) → Both (by_eval plain b again alone name args) (by_eval plain c other alone name args)
+      by_eval_part alone name args =
+          either (is_named name (codes "eval")) _ _ _ _ (evaluated_part (joined_words args) (script (joined_words args)))
+          (by_builtin_part alone name args (builtin name args) (builtin_part R respected name args))
 
-        hosted_later : (name : Text) (at : State) (g : Begun) → at.left ≤ m → at.left ≤ n → Lasts at g → Later at (left_of (hosted first name at g)) (asked_of (hosted first name at g))
-        hosted_later name at (Finished s out after) le lf l =
-            let less : after.left ≤ at.left = l.less in
-            further at after _ _ l (printed s out after (omega (arith, le, less)) (omega (arith, lf, less))).later
-        hosted_later name at (Sourced i bytes after later_on) le lf l =
-            let less : after.left ≤ at.left = l.0.less in
-            further at after _ _ l.0
-            (later_bound (λ _ p. hosted first name p (later_on p)) after (first i bytes after) (source_part plain b c i bytes after (omega (arith, le, less)) (omega (arith, lf, less))).later
-            (λ a p d. hosted_later name p (later_on p) (omega (arith, le, less, d)) (omega (arith, lf, less, d)) (l.1 p)))
-        hosted_later name at (Refused f left asked) le lf l = l
-        hosted_later name at NotMine le lf l = here at
+      by_function_part : (alone : Bool) (name : Text) (args : List Text) (body : Option Command) → Both (by_function plain b again alone name args body) (by_function plain c other alone name args body)
+      by_function_part alone name args None = by_eval_part alone name args
+      by_function_part alone name args (Some body) = call_part name args body
 
-        hosted_part : (name : Text) (at : State) (g h : Begun) → at.left ≤ m → at.left ≤ n → Lasts at g → Follows Agrees g h → Kept Agrees front at (hosted first name at g) (hosted second name at h)
-        hosted_part name at (Finished s out after) h le lf l f =
-            let less : after.left ≤ at.left = l.less in
-            let runs = printed s out after (omega (arith, le, less)) (omega (arith, lf, less)) in
-            record {
-              later = further at after _ _ l runs.later;
-              same = λ w. ap (hosted second name at) (f (front after.host.asked runs.later.more (subst Agrees runs.later.kept w)));
-            }
-        hosted_part name at (Sourced i bytes after later_on) h le lf l f =
-            let less : after.left ≤ at.left = l.0.less in
-            let runs = source_part plain b c i bytes after (omega (arith, le, less)) (omega (arith, lf, less)) in
-            let whole = later_bound (λ _ p. hosted first name p (later_on p)) after (first i bytes after) runs.later
-            (λ a p d. hosted_later name p (later_on p) (omega (arith, le, less, d)) (omega (arith, lf, less, d)) (l.1 p)) in
-            record {
-              later = further at after _ _ l.0 whole;
-              same = λ w.
-                  let g = f (front after.host.asked whole.more (subst Agrees whole.kept w)) in
-                  ap (hosted second name at) g.1
-                  ∙ (bound Agrees front m n (λ _ p. hosted first name p (later_on p)) (λ _ p. hosted second name p (g.0 p)) after _ _ runs
-                  (λ a p d. hosted_part name p (later_on p) (g.0 p) (omega (arith, le, less, d)) (omega (arith, lf, less, d)) (l.1 p) (g.2 p))).same w;
-            }
-        hosted_part name at (Refused why left asked) h le lf l f = record { later = l; same = λ w. ap (hosted second name at) (f w) }
-        hosted_part name at NotMine h le lf l f = record { later = here at; same = λ w. ap (hosted second name at) f }
+      declares_part : (d : DeclName) (args : List Said) → Both (declares_arguments plain d args) (declares_arguments plain d args)
+      declares_part d args = round.declares d (options_of args) (after_options args)
 
-        by_host_part : (alone : Bool) (name : Text) (args : List Text) → Both (by_host plain b again alone name args) (by_host plain c other alone name args)
-        by_host_part alone name args =
-            bind _ _ _ _ (λ at le lf. hosted_part name at (b alone name args at) (c alone name args at) le lf (bc.lasts alone name args at) (bc.follows alone name args at)) (λ s. status_part s)
+      by_name_part : (alone : Bool) (name : Text) (args : List Text) (d : Option DeclName) → Both (by_name plain b again alone name args d) (by_name plain c other alone name args d)
+      by_name_part alone name args None = by_state _ _ (λ at. by_function_part alone name args (body_of name at.funcs))
+      by_name_part alone name args (Some d) = bind _ _ _ _ (declares_part d (map argument_of args)) (λ s. status_part s)
 
-        by_plain_part : (alone : Bool) (name : Text) (args : List Text) → Both (by_plain plain b again alone name args) (by_plain plain c other alone name args)
-        by_plain_part alone name args =
-            either (plain.is_plain name) _ _ _ _ (bind _ _ _ _ (kept Agrees front m n (plain.acts name args) (keeps.acts name args)) (λ s. status_part s)) (by_host_part alone name args)
+      invoked_part : (alone : Bool) (name : Text) (args : List Text) → Both (invoked plain b again alone name args) (invoked plain c other alone name args)
+      unfolding invoked
+      invoked_part alone name args = by_name_part alone name args (declaration_named name)
 
-        by_builtin_part : (alone : Bool) (name : Text) (args : List Text) (x : Option (Doing End)) → SelfIfAny Agrees front m n x → Both (by_builtin plain b again alone name args x) (by_builtin plain c other alone name args x)
-        by_builtin_part alone name args x nothing = by_plain_part alone name args
-        by_builtin_part alone name args x (something f p) = p
+      performed_part : (as' : List Assign) (ts : List Text) → Both (performed plain b again as' ts) (performed plain c other as' ts)
+      performed_part as' [] =
+          next _ _ _ _ (assigns_part (substitution again) (substitution other) substitution_part as') (by_state _ _ (λ at. status_part (last_status at)))
+      performed_part as' (name ∷ args) =
+          by_state _ _ (λ at. prefixed_part as' _ _ (invoked_part (stands_alone as' at) name args))
 
-        by_eval_part : (alone : Bool) (name : Text) (args : List Text) → Both (by_eval plain b again alone name args) (by_eval plain c other alone name args)
-        by_eval_part alone name args =
-            either (is_named name (codes "eval")) _ _ _ _ (evaluated_part plain b c (joined_words args) (script (joined_words args)))
-            (by_builtin_part alone name args (builtin name args) (builtin_part Agrees front m n name args))
+      simple_part : (s : Simple) → Both (simple plain b again s) (simple plain c other s)
+      unfolding simple
+      simple_part s =
+          bind _ _ _ _ (next _ _ _ _ (changed_both R respected command_begins (λ at. refl)) (word_fields (substitution again) (substitution other) substitution_part (words_of (out-Simple s).tail)))
+          (λ ts. under_part (redirs_before (out-Simple s).before ++ redirs_of (out-Simple s).tail) _ _
+          (performed_part (assigns_before (out-Simple s).before) ts))
 
-        by_function_part : (alone : Bool) (name : Text) (args : List Text) (body : Option Command) → Both (by_function plain b again alone name args body) (by_function plain c other alone name args body)
-        by_function_part alone name args None = by_eval_part alone name args
-        by_function_part alone name args (Some body) = call_part plain b c name args body
+      declared_part : (d : Decl) → Both (declared plain again d) (declared plain other d)
+      unfolding declared
+      declared_part d =
+          bind _ _ _ _ (next _ _ _ _ (changed_both R respected command_begins (λ at. refl)) (arguments_part (substitution again) (substitution other) substitution_part (out-Decl d).arguments []))
+          (λ args. under_part (redirs_before (out-Decl d).before ++ redirs_in (out-Decl d).arguments) _ _
+          (prefixed_part (assigns_before (out-Decl d).before) _ _
+          (bind _ _ _ _ (declares_part (out-Decl d).name args) (λ s. status_part s))))
 
-        declares_part : (d : DeclName) (args : List Said) → Both (declares_arguments plain d args) (declares_arguments plain d args)
-        declares_part d args = kept Agrees front m n (declares_arguments plain d args) (keeps.declares d (options_of args) (after_options args))
-
-        by_name_part : (alone : Bool) (name : Text) (args : List Text) (d : Option DeclName) → Both (by_name plain b again alone name args d) (by_name plain c other alone name args d)
-        by_name_part alone name args None = by_state _ _ (λ at. by_function_part alone name args (body_of name at.funcs))
-        by_name_part alone name args (Some d) = bind _ _ _ _ (declares_part d (map argument_of args)) (λ s. status_part s)
-
-        invoked_part : (alone : Bool) (name : Text) (args : List Text) → Both (invoked plain b again alone name args) (invoked plain c other alone name args)
-        unfolding invoked
-        invoked_part alone name args = by_name_part alone name args (declaration_named name)
-
-        performed_part : (as' : List Assign) (ts : List Text) → Both (performed plain b again as' ts) (performed plain c other as' ts)
-        performed_part as' [] =
-            next _ _ _ _ (assigns_part (substitution again) (substitution other) substitution_part as') (by_state _ _ (λ at. status_part (last_status at)))
-        performed_part as' (name ∷ args) =
-            by_state _ _ (λ at. prefixed_part (substitution again) (substitution other) substitution_part as' _ _ (invoked_part (stands_alone as' at) name args))
-
-        simple_part : (s : Simple) → Both (simple plain b again s) (simple plain c other s)
-        unfolding simple
-        simple_part s =
-            bind _ _ _ _ (next _ _ _ _ (changed command_begins) (word_fields (substitution again) (substitution other) substitution_part (words_of (out-Simple s).tail)))
-            (λ ts. under_part (substitution again) (substitution other) substitution_part (redirs_before (out-Simple s).before ++ redirs_of (out-Simple s).tail) _ _
-            (performed_part (assigns_before (out-Simple s).before) ts))
-
-        declared_part : (d : Decl) → Both (declared plain again d) (declared plain other d)
-        unfolding declared
-        declared_part d =
-            bind _ _ _ _ (next _ _ _ _ (changed command_begins) (arguments_part (substitution again) (substitution other) substitution_part (out-Decl d).arguments []))
-            (λ args. under_part (substitution again) (substitution other) substitution_part (redirs_before (out-Decl d).before ++ redirs_in (out-Decl d).arguments) _ _
-            (prefixed_part (substitution again) (substitution other) substitution_part (assigns_before (out-Decl d).before) _ _
-            (bind _ _ _ _ (declares_part (out-Decl d).name args) (λ s. status_part s))))
-
-        pub command_part : (l : CommandLayer) → Both (command_at plain b again m l) (command_at plain c other n l)
-        command_part (Command-F.Compound what rs) =
-            refused_part Agrees front m n (is_select (out-Compound what)) _ _ _
-            (under_part (substitution again) (substitution other) substitution_part rs _ _ (compound_part (out-Compound what)))
-        command_part (Command-F.FuncDef f) = next _ _ _ _ (changed (defining f.name f.body)) (status_part 0)
-        command_part (Command-F.Coproc x) = no _
-        command_part (Command-F.Decl d) = declared_part d
-        command_part (Command-F.Simple s) = simple_part s
+      pub command_part : (l : CommandLayer) → Both (command_at plain b again m l) (command_at plain c other n l)
+      command_part (Command-F.Compound what rs) =
+          refused_part R respected (is_select (out-Compound what)) _ _ _
+          (under_part rs _ _ (compound_part (out-Compound what)))
+      command_part (Command-F.FuncDef f) = next _ _ _ _ (changed_both R respected (defining f.name f.body) (λ at. refl)) (status_part 0)
+      command_part (Command-F.Coproc x) = no _
+      command_part (Command-F.Decl d) = declared_part d
+      command_part (Command-F.Simple s) = simple_part s

@@ -1,12 +1,10 @@
--- Two runs side by side: the parts that run no commands. Each is the same part twice.
-use Rattle.std.proofs.Common.{ℕ, zero, suc, ℤ, pos, negsuc, ◌-◌, min, List, [], ◌∷◌, ◌++◌, Option, Some, None, Bool, true, false, not, length, arith}
+-- The parts that run no commands: what is respected holds of each of them.
+use Rattle.std.proofs.Common.{ℕ, zero, suc, ℤ, pos, negsuc, ◌-◌, min, List, [], ◌∷◌, ◌++◌, Option, Some, None, Bool, true, false, not, length, refl}
 use Rattle.std.specs.Prelude.{if◌then◌else◌, codes, is_some, Ok, Err, Result, nat_le, ◌==◌, ◌&&◌, ◌||◌, drop, take}
 use Rattle.std.specs.Str.{bytes_eq}
 use Rattle.byte_class.specs.Class.{is_name}
 use Rattle.eb_bytes.specs.Text.{Text}
-use Rattle.bash_arith.specs.Outcome as arithmetic
-use Rattle.bash_arith.specs.Value.{arithmetic as value_of}
-use Rattle.bash_cond.specs.Arithmetic.{ends_as, evaluates, variables_of}
+use Rattle.bash_cond.specs.Arithmetic.{evaluates}
 use Rattle.bash_cond.specs.Numbers.{numbers_stand}
 use Rattle.bash_cond.specs.Operators.{file_operator, is_before, stand, text_test}
 use Rattle.bash_cond.specs.Verdict.{Verdict, told}
@@ -22,72 +20,68 @@ use Rattle.eb_grammar.specs.Grammar.{whole_ref}
 use Rattle.eb_syntax.specs.Tree.{Ref}
 use Rattle.eb_syntax.specs.declared.parts.RefOf.TheVariants as ref
 use Rattle.shell_functions.specs.Funcs.{without}
-use Rattle.shell_vars.specs.Calls.{element, get, unset, unset_elem}
+use Rattle.shell_vars.specs.Calls.{assign, element, get, unset, unset_elem}
 use Rattle.shell_vars.specs.Refused.{is_refused}
 use Rattle.shell_vars.specs.Store.{Store}
 use Rattle.shell_vars.specs.declared.error.VarErr.{VarErr}
 use Rattle.shell_state.specs.Faults.{variable_fault}
-use Rattle.shell_state.specs.Host.{Later}
-use Rattle.shell_state.specs.Output.{may_put, prints, put, puts}
-use Rattle.shell_state.specs.Spending.{spend, text_cost}
+use Rattle.shell_state.specs.Spending.{spend}
 use Rattle.shell_state.specs.State.{State}
-use Rattle.shell_state.specs.Outcome.{Outcome, Ended, Doing, ◌>>=◌, ◌>>◌, ◌<$>◌, pure, refuse, change, left_of, asked_of}
+use Rattle.shell_state.specs.Outcome.{Doing, ◌>>=◌, ◌>>◌, ◌<$>◌, pure, refuse, change}
 use Rattle.shell_state.specs.declared.fault.Fault.{Fault}
 use Rattle.shell_state.specs.declared.fault.Fault.TheVariants as fault
-use Rattle.shell_state.specs.declared.io.Io.{Io}
-use Rattle.shell_state.specs.declared.io.Target.{Target}
-use Rattle.shell_state.proofs.Kept.{here, Kept, plain, Part, pure_part, refuse_part, change_part, bind_part, cond_part, state_part, spend_part}
-use Rattle.run_meaning.specs.Assignments.{changes, stores, with_store}
+use Rattle.run_meaning.specs.Assignments.{changes}
 use Rattle.run_meaning.specs.Builtins.{Unsets, as_status, bad_use, before_bracket, builtin, ends_options, is_dash_option, is_named, is_option, jumps, jumps_by, last_word, lets, lets_after, no_options, number_or, return_to, returns, sets, sets_letter, sets_letters, sets_option, shift, shifted, subscript_of, tests, tests_bracketed, unset_by, unset_either, unset_from, unset_function, unset_letters, unset_name, unset_parts, unset_variable, unset_word, unset_words, with_args, with_funcs, with_noglob}
 use Rattle.run_meaning.specs.Cases.{matches_case}
 use Rattle.run_meaning.specs.Conditions.{bracketed, compared, has_argument, has_at, has_element, has_elements, has_special, is_set, is_there, matched, matches_pattern, unary, unless_made_up}
 use Rattle.run_meaning.specs.Ends.{End, Goes, Breaks, Continues, Returns, status, with_status, truth_status, inverse, left_loop, turned, going}
-use Rattle.run_meaning.specs.Laws.{Keeps}
 use Rattle.run_meaning.specs.Lists.{inverted, unless_refused}
-use Rattle.run_meaning.specs.Redirections.{connects, redirects, with_io}
+use Rattle.run_meaning.specs.Loops.{for_turns, next_turn}
 use Rattle.shell_marks.specs.declared.marked.Mark.{Mark}
+use Rattle.word_meaning.proofs.Frames.{KeepsFrames, assign_same, unset_elem_same, unset_same}
+use Rattle.word_meaning.proofs.Respected.{KeepsOpen, Respected}
 
-module _ (Agrees : List Text → Type 0) (front : (xs ys : List Text) → Agrees (xs ++ ys) → Agrees xs) (m n : ℕ) where
+module _ (R : (A : Type 0) → Doing A → Doing A → Type 0) (respected : Respected R) where
+  abbrev pub Pair : {A : Type 0} → Doing A → Doing A → Type 0
+  Pair {A} f g = R A f g
+
   abbrev pub Self : {A : Type 0} → Doing A → Type 0
-  Self {A} f = Part Agrees front m n {A = A} f f
+  Self {A} f = R A f f
 
   -- ---- ways to make a part
 
   pub done : {A : Type 0} (a : A) → Self (pure a)
-  done a = pure_part Agrees front m n a
+  done a = respected.done _ a
 
   pub no : {A : Type 0} (why : Fault) → Self {A = A} (refuse why)
-  no why = refuse_part Agrees front m n why
+  no why = respected.refused _ why
 
-  pub changed : (f : State → State) → Self (change f)
-  changed f = change_part Agrees front m n f
+  pub changed : (f : State → State) → KeepsOpen f → Self (change f)
+  changed f keeps = respected.altered f keeps
 
-  pub bind : {A B : Type 0} (f g : Doing A) (h j : A → Doing B) → Part Agrees front m n f g → ((a : A) → Part Agrees front m n (h a) (j a)) → Part Agrees front m n (f >>= h) (g >>= j)
-  bind f g h j = bind_part Agrees front m n f g h j
+  pub bind : {A B : Type 0} (f g : Doing A) (h j : A → Doing B) → Pair f g → ((a : A) → Pair (h a) (j a)) → Pair (f >>= h) (g >>= j)
+  bind f g h j = respected.bound _ _ f g h j
 
-  pub next : {A B : Type 0} (f g : Doing A) (h j : Doing B) → Part Agrees front m n f g → Part Agrees front m n h j → Part Agrees front m n (f >> h) (g >> j)
-  next f g h j p q = bind_part Agrees front m n f g _ _ p (λ _. q)
+  pub next : {A B : Type 0} (f g : Doing A) (h j : Doing B) → Pair f g → Pair h j → Pair (f >> h) (g >> j)
+  next f g h j p q = respected.bound _ _ f g _ _ p (λ _. q)
 
-  pub image : {A B : Type 0} (f g : Doing A) (h : A → B) → Part Agrees front m n f g → Part Agrees front m n (h <$> f) (h <$> g)
-  image f g h p = bind_part Agrees front m n f g _ _ p (λ a. done (h a))
+  pub image : {A B : Type 0} (f g : Doing A) (h : A → B) → Pair f g → Pair (h <$> f) (h <$> g)
+  image f g h p = respected.bound _ _ f g _ _ p (λ a. done (h a))
 
-  pub by_state : {A : Type 0} (f g : State → Doing A) → ((x : State) → Part Agrees front m n (f x) (g x)) → Part Agrees front m n (λ at. f at at) (λ at. g at at)
-  by_state f g = state_part Agrees front m n f g
+  pub by_state : {A : Type 0} (f g : State → Doing A) → ((x : State) → Pair (f x) (g x)) → Pair (λ at. f at at) (λ at. g at at)
+  by_state f g = respected.looked _ f g
 
-  pub either : {A : Type 0} (b : Bool) (f g h j : Doing A) → Part Agrees front m n f g → Part Agrees front m n h j → Part Agrees front m n (if b then f else h) (if b then g else j)
-  either b f g h j = cond_part Agrees front m n b f g h j
-
-  -- a part that gives no steps back and loses no name
-  pub kept : {A : Type 0} (f : Doing A) → Keeps f → Self f
-  kept f k at le lf = plain Agrees front at (f at) (k at)
+  pub either : {A : Type 0} (b : Bool) (f g h j : Doing A) → Pair f g → Pair h j → Pair (if b then f else h) (if b then g else j)
+  either true f g h j p q = p
+  either false f g h j p q = q
 
   pub spends : (k : ℕ) → Self (spend k)
-  spends k = spend_part Agrees front m n k
+  spends k = respected.spent k
 
   -- ---- ends
 
   pub status_part : (s : ℕ) → Self (status s)
-  status_part s = next _ _ _ _ (changed (with_status s)) (done Goes)
+  status_part s = next _ _ _ _ (changed (with_status s) (λ at. refl)) (done Goes)
 
   pub inverted_part : (b : Bool) (e : End) → Self (inverted b e)
   inverted_part true Goes = by_state _ _ (λ at. status_part (inverse at.status))
@@ -96,11 +90,11 @@ module _ (Agrees : List Text → Type 0) (front : (xs ys : List Text) → Agrees
   inverted_part true Returns = done Returns
   inverted_part false e = done e
 
-  pub refused_part : (b : Bool) (why : Fault) (g h : Doing End) → Part Agrees front m n g h → Part Agrees front m n (unless_refused b why g) (unless_refused b why h)
+  pub refused_part : (b : Bool) (why : Fault) (g h : Doing End) → Pair g h → Pair (unless_refused b why g) (unless_refused b why h)
   refused_part true why g h p = no why
   refused_part false why g h p = p
 
-  pub turned_part : (f g : Doing End) → Part Agrees front m n f g → (e : End) → Part Agrees front m n (turned f e) (turned g e)
+  pub turned_part : (f g : Doing End) → Pair f g → (e : End) → Pair (turned f e) (turned g e)
   turned_part f g p Goes = p
   turned_part f g p (Breaks i) = done (left_loop i)
   turned_part f g p (Continues zero) = p
@@ -108,49 +102,30 @@ module _ (Agrees : List Text → Type 0) (front : (xs ys : List Text) → Agrees
   turned_part f g p (Continues (suc (suc i))) = done (Continues (suc i))
   turned_part f g p Returns = done Returns
 
-  pub going_part : (f g : Doing End) → Part Agrees front m n f g → (e : End) → Part Agrees front m n (going f e) (going g e)
+  pub going_part : (f g : Doing End) → Pair f g → (e : End) → Pair (going f e) (going g e)
   going_part f g p Goes = p
   going_part f g p (Breaks i) = done (Breaks i)
   going_part f g p (Continues i) = done (Continues i)
   going_part f g p Returns = done Returns
 
-  -- ---- variables, numbers, inputs and outputs
+  -- ---- variables and numbers
 
-  stores_part : (x : Text) (r : Result Store VarErr) → Self (stores x r)
-  stores_part x (Ok s) = changed (with_store s)
-  stores_part x (Err refused) = no (variable_fault x refused)
-
-  pub changes_part : (x : Text) (make : Store → Result Store VarErr) → Self (changes x make)
-  changes_part x make = by_state _ _ (λ at. stores_part x (make at.store))
-
-  ends_later : (t : Text) (o : arithmetic.Outcome) (at : State) → Later at (left_of (ends_as t o at)) (asked_of (ends_as t o at))
-  ends_later t (arithmetic.Ended v s) at = record { less = omega arith; more = (here at).more; kept = (here at).kept }
-  ends_later t (arithmetic.Faulted e s) at = record { less = omega arith; more = (here at).more; kept = (here at).kept }
-  ends_later t (arithmetic.Changed s o) at = ends_later t o at
+  pub changes_part : (x : Text) (make : Store → Result Store VarErr) → KeepsFrames make → Self (changes x make)
+  changes_part x make keeps = respected.changed x make keeps
 
   pub evaluates_part : (t : Text) → Self (evaluates t)
-  unfolding evaluates
-  evaluates_part t at le lf = plain Agrees front at (evaluates t at) (ends_later t (arithmetic.last (value_of t (variables_of at))) at)
+  evaluates_part t = respected.evaluated t
 
-  connects_part : (t : Text) (io : Option Io) → Self (connects t io)
-  connects_part t None = no (fault.RedirectRefused t)
-  connects_part t (Some io) = changed (with_io io)
+  -- ---- turns
 
-  pub redirects_part : (make : Io → Option Io) (t : Text) → Self (redirects make t)
-  redirects_part make t = by_state _ _ (λ at. connects_part t (make at.io))
+  pub next_turn_part : (f g : ℕ → Doing End) → ((s : ℕ) → Pair (f s) (g s)) → (e : End) → Pair (next_turn f e) (next_turn g e)
+  next_turn_part f g p e = by_state _ _ (λ at. turned_part (f at.status) (g at.status) (p at.status) e)
 
-  abbrev put_if : Bool → Io → State → Outcome (Unit {0})
-  put_if b io at = if b then Ended tt (record at { io = io }) else refuse fault.ValueSize at
-
-  puts_if : (b : Bool) (io : Io) (at : State) → Kept Agrees front at (put_if b io at) (put_if b io at)
-  puts_if true io at = plain Agrees front at (put_if true io at) (here at)
-  puts_if false io at = plain Agrees front at (put_if false io at) (here at)
-
-  puts_part : (target : Target) (t : Text) → Self (puts target t)
-  puts_part target t at le lf = puts_if (may_put target t at.io) (put target t at.io) at
-
-  pub prints_part : (t : Text) → Self (prints t)
-  prints_part t = next _ _ _ _ (spends (text_cost t)) (by_state _ _ (λ at. puts_part at.io.out t))
+  pub for_turns_part : (x : Text) (f g : Doing End) → Pair f g → (last : ℕ) (ts : List Text) → Pair (for_turns x last f ts) (for_turns x last g ts)
+  for_turns_part x f g p last [] = status_part last
+  for_turns_part x f g p last (t ∷ ts) =
+      bind _ _ _ _ (next _ _ _ _ (next _ _ _ _ (spends 1) (changes_part x (assign x None t) (assign_same x None t))) p)
+      (next_turn_part _ _ (λ s. for_turns_part x f g p s ts))
 
   -- ---- conditions
 
@@ -241,14 +216,14 @@ module _ (Agrees : List Text → Type 0) (front : (xs ys : List Text) → Agrees
   shifted_part : (k : Option ℤ) (ts : List Text) → Self (shifted k ts)
   shifted_part None ts = bad (codes "shift")
   shifted_part (Some (negsuc k)) ts = bad (codes "shift")
-  shifted_part (Some (pos k)) ts = either (nat_le k (length ts)) _ _ _ _ (next _ _ _ _ (changed (with_args (drop k ts))) (status_part 0)) (bad (codes "shift"))
+  shifted_part (Some (pos k)) ts = either (nat_le k (length ts)) _ _ _ _ (next _ _ _ _ (changed (with_args (drop k ts)) (λ at. refl)) (status_part 0)) (bad (codes "shift"))
 
   shift_part : (ws : List Text) → Self (shift ws)
   shift_part ws = by_state _ _ (λ at. shifted_part (number_or (pos 1) ws) at.args)
 
   sets_letter_part : (sign letter : ℕ) → Self (sets_letter sign letter)
   sets_letter_part sign letter =
-      either (letter == 102) _ _ _ _ (changed (with_noglob (sign == 45))) (either (letter == 120) _ _ _ _ (done tt) (no (fault.BadOption (codes "set") (sign ∷ letter ∷ []))))
+      either (letter == 102) _ _ _ _ (changed (with_noglob (sign == 45)) (λ at. refl)) (either (letter == 120) _ _ _ _ (done tt) (no (fault.BadOption (codes "set") (sign ∷ letter ∷ []))))
 
   sets_letters_part : (sign : ℕ) (letters : Text) → Self (sets_letters sign letters)
   sets_letters_part sign [] = done tt
@@ -261,8 +236,8 @@ module _ (Agrees : List Text → Type 0) (front : (xs ys : List Text) → Agrees
   sets_part : (ws : List Text) → Self (sets ws)
   sets_part [] = status_part 0
   sets_part (w ∷ ws) =
-      either (ends_options w) _ _ _ _ (next _ _ _ _ (changed (with_args ws)) (status_part 0))
-      (either (is_option w) _ _ _ _ (next _ _ _ _ (sets_option_part w) (sets_part ws)) (next _ _ _ _ (changed (with_args (w ∷ ws))) (status_part 0)))
+      either (ends_options w) _ _ _ _ (next _ _ _ _ (changed (with_args ws) (λ at. refl)) (status_part 0))
+      (either (is_option w) _ _ _ _ (next _ _ _ _ (sets_option_part w) (sets_part ws)) (next _ _ _ _ (changed (with_args (w ∷ ws)) (λ at. refl)) (status_part 0)))
 
   unset_letters_part : (letters : Text) (u : Unsets) → Self (unset_letters letters u)
   unset_letters_part [] u = done u
@@ -271,11 +246,11 @@ module _ (Agrees : List Text → Type 0) (front : (xs ys : List Text) → Agrees
       (either (letter == 102) _ _ _ _ (unset_letters_part letters _) (no (fault.BadOption (codes "unset") (45 ∷ letter ∷ []))))
 
   unset_function_part : (name : Text) → Self (unset_function name)
-  unset_function_part name = by_state _ _ (λ at. changed (with_funcs (without name at.funcs)))
+  unset_function_part name = by_state _ _ (λ at. changed (with_funcs (without name at.funcs)) (λ p. refl))
 
   unset_variable_part : (name : Text) (e : Option Text) → Self (unset_variable name e)
-  unset_variable_part name None = changes_part name (unset name)
-  unset_variable_part name (Some e) = bind _ _ _ _ (evaluates_part e) (λ at. changes_part name (unset_elem name at))
+  unset_variable_part name None = changes_part name (unset name) (unset_same name)
+  unset_variable_part name (Some e) = bind _ _ _ _ (evaluates_part e) (λ at. changes_part name (unset_elem name at) (unset_elem_same name at))
 
   unset_either_part : (name : Text) → Self (unset_either name)
   unset_either_part name = by_state _ _ (λ at. either (is_some (get name at.store)) _ _ _ _ (unset_variable_part name None) (unset_function_part name))

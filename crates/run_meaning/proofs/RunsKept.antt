@@ -8,17 +8,27 @@ use Rattle.shell_state.specs.Host.{Begins, Begun, Finished, Sourced, Refused, No
 use Rattle.shell_state.specs.State.{State}
 use Rattle.shell_state.specs.Outcome.{Ended, Faulted, Doing, ◌>>◌, left_of}
 use Rattle.shell_state.specs.Spending.{script_cost, spend}
-use Rattle.shell_state.proofs.Kept.{Part}
+use Rattle.shell_state.proofs.Kept.{Part, bind_part, pure_part, spend_part}
 use Rattle.run_meaning.specs.Builtins.{Plain}
 use Rattle.run_meaning.specs.Ends.{End, Run}
 use Rattle.run_meaning.specs.Laws.{Agree, Alike, Always, Follows, KeepPlain, NamesAskedDetermine, NamesAskedDetermineScripts, RunUnfolds, RunsKeep, Scene, ScriptsKeep, Steady, StepsSuffice, StepsSufficeForScripts}
+use Rattle.run_meaning.specs.Layers.{CommandLayer}
 use Rattle.run_meaning.specs.Run.{command_at, run, whole}
-use Rattle.run_meaning.proofs.CommandsKept.{command_part, items_part}
+use Rattle.run_meaning.proofs.CommandsKept.{command_part as any_command, items_part}
 use Rattle.run_meaning.proofs.Paid.{Costs, has_step, paid_within, spent_within, within_zero, zero_within}
-use Rattle.run_meaning.proofs.PartsKept.{done, next, spends}
+use Rattle.run_meaning.proofs.SideBySide.{beside}
+use Rattle.word_meaning.proofs.Respected.{SideBySide, side_by_side}
 
 always_front : (xs ys : List Text) → Always (xs ++ ys) → Always xs
 always_front xs ys h = tt
+
+command_part : (Agrees : List Text → Type 0) (front : (xs ys : List Text) → Agrees (xs ++ ys) → Agrees xs) (m n : ℕ) (again other : Command → Doing End)
+    → ((x : Command) → Part Agrees front m n (again x) (other x)) → ((x : Command) (at : State) → at.left ≤ m → Costs at.left (again x at))
+    → (plain : Plain) → KeepPlain plain → (b c : Begins) → Alike Agrees b c → (l : CommandLayer)
+    → Part Agrees front m n (command_at plain b again m l) (command_at plain c other n l)
+command_part Agrees front m n again other k costs plain keeps b c bc l =
+    any_command (SideBySide Agrees front m n) (side_by_side Agrees front m n) again other k m n plain b c
+    (beside Agrees front m n plain keeps b c bc again other costs) l
 
 -- ---- a run that ends has spent a step
 
@@ -90,8 +100,9 @@ module _ (Agrees : List Text → Type 0) (front : (xs ys : List Text) → Agrees
   pub whole_part : (m n bytes : ℕ) (i : Items) → Part Agrees front m n (whole plain b m bytes i) (whole plain c n bytes i)
   unfolding whole
   whole_part m n bytes i =
-      next Agrees front m n _ _ _ _ (next Agrees front m n _ _ _ _ (spends Agrees front m n (script_cost bytes))
-      (items_part Agrees front m n (run plain b m) (run plain c n) (run_part m n) i)) (done Agrees front m n tt)
+      bind_part Agrees front m n _ _ _ _ (bind_part Agrees front m n _ _ _ _ (spend_part Agrees front m n (script_cost bytes))
+      (λ _. items_part (SideBySide Agrees front m n) (side_by_side Agrees front m n) (run plain b m) (run plain c n) (run_part m n) i))
+      (λ _. pure_part Agrees front m n tt)
 
 -- ---- the laws
 

@@ -1,5 +1,5 @@
 -- Assignments as parts of a run ("Shell Parameters", "Simple Command Expansion").
-use Rattle.std.specs.Prelude.{ℤ, List, [], ◌∷◌, Option, Some, None, Result, Ok, Err}
+use Rattle.std.specs.Prelude.{ℤ, List, [], ◌∷◌, Option, Some, None}
 use Rattle.eb_bytes.specs.Text.{Text}
 use Rattle.bash_cond.specs.Arithmetic.{evaluates}
 use Rattle.eb_syntax.specs.Tree.{Assigned, Sub}
@@ -7,28 +7,14 @@ use Rattle.eb_syntax.specs.declared.parts.AssignedOf.TheVariants as assigned
 use Rattle.eb_syntax.specs.declared.tree.Assign.{Assign, out-Assign}
 use Rattle.eb_syntax.specs.declared.tree.Items.{Items}
 use Rattle.shell_vars.specs.Calls.{pop_frame, push_frame}
-use Rattle.shell_vars.specs.Store.{Store}
-use Rattle.shell_vars.specs.declared.error.VarErr.{VarErr}
 use Rattle.shell_vars.specs.declared.kind.FrameKind.TheVariants as kind
 use Rattle.shell_state.specs.State.{State}
-use Rattle.shell_state.specs.Outcome.{Doing, ◌>>=◌, ◌>>◌, ◌<$>◌, pure, refuse, change}
+use Rattle.shell_state.specs.Outcome.{Doing, ◌>>=◌, ◌>>◌, ◌<$>◌, pure, change}
 use Rattle.shell_state.specs.Opening.{bringing_back}
-use Rattle.shell_state.specs.Faults.{variable_fault}
 use Rattle.run_meaning.specs.Values.{Assignment, Given, GivenText, GivenArray, bound, made}
 use Rattle.word_meaning.specs.Literals.{elements}
 use Rattle.word_meaning.specs.Texts.{assigned as assigned_text, subscript_text}
-
-abbrev pub with_store : Store → State → State
-with_store s at = record at { store = s }
-
--- these variables, or the fault that the refusal to change the one of this name is
-abbrev pub stores : Text → Result Store VarErr → Doing (Unit {0})
-stores name (Ok s) = change (with_store s)
-stores name (Err refused) = refuse (variable_fault name refused)
-
--- what a change makes of the variables as they are then
-abbrev pub changes : Text → (Store → Result Store VarErr) → Doing (Unit {0})
-changes name make = λ at. stores name (make at.store) at
+pub use Rattle.word_meaning.specs.Variables.{changes}
 
 -- the frame of the assignments before a command, and the store without it
 abbrev pub with_prefix : State → State

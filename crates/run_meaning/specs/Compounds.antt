@@ -1,8 +1,8 @@
 -- Compound commands ("Compound Commands").
-use Rattle.std.specs.Prelude.{ℕ, ℤ, pos, Bool, true, false, not, List, [], ◌∷◌, codes, Option, Some, None, if◌then◌else◌}
+use Rattle.std.specs.Prelude.{ℕ, ℤ, pos, Bool, true, false, ◌||◌, not, ◌==◌, List, [], ◌∷◌, codes, Option, Some, None, if◌then◌else◌}
 use Rattle.std.specs.List.{list_all}
 use Rattle.std.specs.Ordering.{int_eq}
-use Rattle.eb_bytes.specs.Text.{Text, is_space}
+use Rattle.eb_bytes.specs.Text.{Text}
 use Rattle.bash_cond.specs.Arithmetic.{evaluates}
 use Rattle.eb_syntax.specs.Tree.{ArithText, Elif}
 use Rattle.eb_syntax.specs.declared.tree.AP.{out-AP}
@@ -27,9 +27,10 @@ use Rattle.word_meaning.specs.Texts.{arith_text, text}
 abbrev pub is_zero : ℤ → Bool
 is_zero n = int_eq n (pos 0)
 
--- whether a part of `for ((` is missing: only blanks stand there
+-- whether a part of `for ((` is missing: only blanks, tabs and backslashes before a newline stand there
 abbrev pub is_blank_at : APLayer → Bool
-is_blank_at (AP-F.AP::Byte b) = is_space b
+is_blank_at (AP-F.AP::Byte b) = b == 32 || b == 9
+is_blank_at (AP-F.AP::Escaped b) = b == 10
 is_blank_at other = false
 
 abbrev pub is_missing : ArithText → Bool

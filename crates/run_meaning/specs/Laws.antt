@@ -16,6 +16,7 @@ use Rattle.run_meaning.specs.Redirections.{under}
 use Rattle.run_meaning.specs.Run.{command_at, run, whole}
 use Rattle.run_meaning.specs.Simple.{call, source}
 use Rattle.run_meaning.specs.Subshells.{host_after, subshell, substitution}
+use Rattle.word_meaning.specs.Closing.{Closes, SameOpen}
 
 -- `Agrees` says of a list of names that two hosts know the same of them
 module _ (Agrees : List Text → Type 0) where
@@ -99,6 +100,32 @@ ScriptsKeep =
     (plain : Plain) → KeepPlain plain → (b : Begins) → Steady b
     → (n bytes : ℕ) (i : Items) (at : State) → at.left ≤ n
     → Later at (left_of (whole plain b n bytes i at)) (asked_of (whole plain b n bytes i at))
+
+-- ---- what is closed at the end of a part
+
+-- a command of the host closes what it opens: as it ends, and where it hands out a script
+abbrev pub ClosesTo : State → Begun → Type 0
+ClosesTo before (Finished status output at) = SameOpen before at
+ClosesTo before (Sourced script bytes at next) = SameOpen before at × ((p : State) → ClosesTo p (next p))
+ClosesTo before (Refused fault left asked) = Unit {0}
+ClosesTo before NotMine = Unit {0}
+
+abbrev pub CloseHost : Begins → Type 0
+CloseHost b = (alone : Bool) (name : Text) (args : List Text) (at : State) → ClosesTo at (b alone name args at)
+
+-- so do the builtins that act on no run
+pub record ClosePlain (plain : Plain) : Type 0 where
+  pub acts : (name : Text) (args : List Text) → Closes (plain.acts name args)
+  pub declares : (declaration : DeclName) (options : List Text) (args : List Argument) → Closes (plain.declares declaration options args)
+
+-- then at the end of each command its frames, its redirections and all else that it opened are closed, and nothing else is
+abbrev pub CommandsClose : Type 0
+CommandsClose =
+    (plain : Plain) → ClosePlain plain → (b : Begins) → CloseHost b → (n : ℕ) (x : Command) → Closes (run plain b n x)
+
+abbrev pub WholeScriptsClose : Type 0
+WholeScriptsClose =
+    (plain : Plain) → ClosePlain plain → (b : Begins) → CloseHost b → (n bytes : ℕ) (i : Items) → Closes (whole plain b n bytes i)
 
 -- ---- what is brought back at the end of a part
 

@@ -1,5 +1,6 @@
 -- Subshells ("Command Grouping", "Command Substitution").
-use Rattle.std.specs.Prelude.{ℕ, ◌==◌, List, [], ◌∷◌, ◌++◌, length, take, slice_index_or, Some, if◌then◌else◌}
+use Rattle.std.specs.Prelude.{ℕ, ◌==◌, List, [], ◌∷◌, length, take, slice_index_or, Some, if◌then◌else◌}
+use Rattle.bash_calls.specs.Calls.{capturing as captures}
 use Rattle.eb_bytes.specs.Text.{Text}
 use Rattle.eb_syntax.specs.declared.tree.Command.{Command}
 use Rattle.eb_syntax.specs.declared.tree.Items.{Items}
@@ -8,7 +9,6 @@ use Rattle.shell_state.specs.Outcome.{Doing, Ended, and_then, ◌>>=◌, ◌>>�
 use Rattle.shell_state.specs.Opening.{opens}
 use Rattle.shell_state.specs.Spending.{step}
 use Rattle.shell_state.specs.declared.io.Io.{Io}
-use Rattle.shell_state.specs.declared.io.Target.TheVariants.{Capture}
 use Rattle.shell_state.specs.declared.opened.Opened.TheVariants as opened
 use Rattle.run_meaning.specs.Ends.{End, Goes}
 use Rattle.run_meaning.specs.Lists.{items}
@@ -43,7 +43,7 @@ apart begins commands =
 
 -- standard output goes to a capture of its own
 abbrev pub capturing : State → State
-capturing at = record at { io = record at.io { out = Capture (length at.io.captures); captures = at.io.captures ++ ([] ∷ []) } }
+capturing at = record at { io = captures at.io }
 
 -- a byte before what is left of a text; a newline goes where nothing is left
 abbrev pub byte_before : ℕ → Text → Text

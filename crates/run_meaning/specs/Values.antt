@@ -1,9 +1,7 @@
 -- What assignments make of the variables ("Shell Parameters", "Arrays").
-use Rattle.std.specs.Prelude.{ℕ, ℤ, pos, ◌+◌, Bool, true, false, List, [], ◌∷◌, ◌++◌, is_some, unwrap_or, Option, Some, None, Result, Ok, Err, if◌then◌else◌}
-use Rattle.std.specs.FinMap as map
+use Rattle.std.specs.Prelude.{ℤ, Bool, true, false, List, [], ◌++◌, unwrap_or, Option, Some, None, Result, Ok, Err}
 use Rattle.eb_bytes.specs.Text.{Text}
 use Rattle.shell_vars.specs.Calls.{append, assign, bind, element, get, set, set_elem}
-use Rattle.shell_vars.specs.Elements.{Elements, index_of, is_index, put_from}
 use Rattle.shell_vars.specs.Store.{Store}
 use Rattle.shell_vars.specs.Value as change
 use Rattle.shell_vars.specs.Value.{appended, element_set, elements_of}
@@ -11,10 +9,7 @@ use Rattle.shell_vars.specs.declared.error.VarErr.{VarErr}
 use Rattle.shell_vars.specs.declared.error.VarErr.TheVariants as refusal
 use Rattle.shell_vars.specs.declared.value.Value.{Value}
 use Rattle.shell_vars.specs.declared.value.Value.TheVariants as value
-
--- an element of an array literal: its subscript, where it has one, and its text
-abbrev pub Element : Type 0
-Element = Option ℤ × Text
+use Rattle.word_meaning.specs.Literals.{Element, array_of, array_with}
 
 -- what is given to a name
 pub data Given : Type 0 where
@@ -33,59 +28,10 @@ abbrev pub after : {A B : Type 0} → Result A VarErr → (A → Result B VarErr
 after (Ok a) f = f a
 after (Err refused) f = Err refused
 
--- ---- array literals
-
--- the index after this one, and what was made with it; none may be greater than 9223372036854775807
-abbrev pub put_at : Option ℕ → Text → Elements → Result (ℕ × Elements) VarErr
-put_at None t es = Err refusal.BadSubscript
-put_at (Some i) t es = if is_index i then Ok (i + 1, map.insert es i t) else Err refusal.BadSubscript
-
--- the index of an element: without a subscript it is the one after the element that was set before
-abbrev pub index_in : Elements → (next : ℕ) → Option ℤ → Option ℕ
-index_in es next None = Some next
-index_in es next (Some at) = index_of es at
-
--- with each element put, from the index after those that were put before
-abbrev pub put_each : List Element → Result (ℕ × Elements) VarErr → Result Value VarErr
-put_each [] (Ok so_far) = Ok (value.Array so_far.1)
-put_each (e ∷ more) (Ok so_far) = put_each more (put_at (index_in so_far.1 so_far.0 e.0) e.1 so_far.1)
-put_each els (Err refused) = Err refused
-
--- the array of these elements
-abbrev pub array_of : List Element → Result Value VarErr
-array_of els = put_each els (Ok (0, map.empty))
-
--- the texts of the elements before the first one that has a subscript
-abbrev pub texts_before : List Element → List Text
-texts_before [] = []
-texts_before (e ∷ more) = if is_some e.0 then [] else e.1 ∷ texts_before more
-
-abbrev pub array_before : List Element → Value
-array_before els = value.Array (put_from 0 (texts_before els) map.empty)
-
--- the other elements
-abbrev pub from_subscript : List Element → List Element
-from_subscript [] = []
-from_subscript (e ∷ more) = if is_some e.0 then e ∷ more else from_subscript more
-
--- the index after this one, and the store with its element set
-abbrev pub set_at : Text → Option ℕ → Text → Store → Result (ℕ × Store) VarErr
-set_at name None t s = Err refusal.BadSubscript
-set_at name (Some i) t s =
-    if is_index i then after (set_elem name (pos i) t s) (λ u. Ok (i + 1, u)) else Err refusal.BadSubscript
-
--- with each of these elements set
-abbrev pub set_each : Text → List Element → Result (ℕ × Store) VarErr → Result Store VarErr
-set_each name [] (Ok so_far) = Ok so_far.1
-set_each name (e ∷ more) (Ok so_far) =
-    set_each name more (set_at name (index_in (elements_of (get name so_far.1)) so_far.0 e.0) e.1 so_far.1)
-set_each name els (Err refused) = Err refused
-
--- an array literal after "+=": the elements before the first subscript are appended, the others are set
-abbrev pub extended : Text → List Element → Store → Result Store VarErr
-extended name els s =
-    after (append name (array_before els) s)
-    (λ u. set_each name (from_subscript els) (Ok (0, u)))
+-- the array that a literal makes; after `+=` its elements come after those of what is there
+abbrev pub array_given : (appends : Bool) → List Element → Option Value → Result Value VarErr
+array_given false els old = after (array_of els) (λ es. Ok (value.Array es))
+array_given true els old = after (array_with els (elements_of old)) (λ es. Ok (value.Array es))
 
 -- ---- assignments
 
@@ -98,8 +44,7 @@ abbrev pub given_to : Text → Option ℤ → (appends : Bool) → Given → Sto
 given_to name at false (GivenText t) s = assign name at t s
 given_to name None true (GivenText t) s = append name (value.Text t) s
 given_to name (Some at) true (GivenText t) s = element_extended name at t s
-given_to name None false (GivenArray els) s = after (array_of els) (λ v. set name v s)
-given_to name None true (GivenArray els) s = extended name els s
+given_to name None appends (GivenArray els) s = after (array_given appends els (get name s)) (λ v. set name v s)
 given_to name (Some at) appends (GivenArray els) s = Err refusal.BadSubscript
 
 abbrev pub made : Assignment → Store → Result Store VarErr
@@ -114,9 +59,7 @@ value_given (Some at) false (GivenText t) old = element_set at t old
 value_given None true (GivenText t) old = appended (value.Text t) old
 value_given (Some at) true (GivenText t) old =
     after (change.element (Some at) old) (λ had. element_set at (unwrap_or had [] ++ t) old)
-value_given None false (GivenArray els) old = array_of els
-value_given None true (GivenArray els) old =
-    after (appended (array_before els) old) (λ v. put_each (from_subscript els) (Ok (0, elements_of (Some v))))
+value_given None appends (GivenArray els) old = array_given appends els old
 value_given (Some at) appends (GivenArray els) old = Err refusal.BadSubscript
 
 -- an assignment before a command binds the name in the innermost frame, to the value that it would give to what is seen

@@ -1,8 +1,8 @@
 //! Laws: what holds of every run.
-ghost use Rattle.run_meaning.specs.Laws.{CallsBringBack, LoopsBringBack, RedirectionsEnd, ScriptsBringBack};
+ghost use Rattle.run_meaning.specs.Laws.{CallsBringBack, CommandsClose, LoopsBringBack, RedirectionsEnd, ScriptsBringBack};
 ghost use Rattle.run_meaning.specs.Laws.{NamesAskedDetermine, NamesAskedDetermineScripts, RunUnfolds, RunsKeep};
 ghost use Rattle.run_meaning.specs.Laws.{ScriptsKeep, StepsSuffice, StepsSufficeForScripts};
-ghost use Rattle.run_meaning.specs.Laws.{SubshellsBringBack, SubstitutionsBringBack};
+ghost use Rattle.run_meaning.specs.Laws.{SubshellsBringBack, SubstitutionsBringBack, WholeScriptsClose};
 
 /// Two hosts that know the same of the names that a run asked for give the same run.
 pub fn names_asked_determine_the_run()
@@ -37,6 +37,16 @@ pub fn steps_suffice_for_a_script()
 /// A script gives no step back and loses no name that was asked.
 pub fn a_script_keeps_steps_and_names()
     ensures { ScriptsKeep }
+{}
+
+/// At the end of a command its frames, its redirections and all else that it opened are closed, and nothing else is.
+pub fn commands_close()
+    ensures { CommandsClose }
+{}
+
+/// So is all that a script opened, at its end.
+pub fn whole_scripts_close()
+    ensures { WholeScriptsClose }
 {}
 
 /// A subshell ends any jump and leaves its status, what it put to the captures outside of it, the reads, the names asked

@@ -1,7 +1,11 @@
-mod Built
+pub mod Built
+mod Closed
+mod Evaluated
+pub mod Frames
 pub mod Lasting
 mod OperatorsKept
 mod PartsKept
 pub mod ReferencesKept
+pub mod Respected
 mod Rows
 pub mod WordsKept

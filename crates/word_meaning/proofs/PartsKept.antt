@@ -1,4 +1,4 @@
--- Two runs side by side, with two ways to run substitutions that keep to each other: the parts of a word.
+-- The parts of a word: what is respected holds of them, where it holds of two ways to run substitutions.
 use Rattle.std.proofs.Common.{ℕ, zero, suc, List, [], ◌∷◌, ◌++◌, Bool, true, false, Option, Some, None}
 use Rattle.eb_bytes.specs.Text.{Text}
 use Rattle.eb_grammar.specs.AnsiText.{has_refused_escape}
@@ -19,7 +19,6 @@ use Rattle.eb_syntax.specs.declared.tree.SW.{SW, out-SW}
 use Rattle.eb_syntax.specs.declared.tree.SubPart.{SubPart, out-SubPart}
 use Rattle.shell_state.specs.Outcome.{Doing, ◌>>=◌, ◌<$>◌, pure, refuse}
 use Rattle.shell_state.specs.declared.fault.Fault.TheVariants as fault
-use Rattle.shell_state.proofs.Kept.{Part}
 use Rattle.word_meaning.specs.Layers.{APLayer, DollarLayer, OpLayer, PWLayer, ParamLayer, PieceLayer, QPieceLayer, SWLayer, SubPartLayer}
 use Rattle.word_meaning.specs.Limits.{one_text}
 use Rattle.word_meaning.specs.Marks.{Given, given, followed, bytes_of, in_quotes, as_value}
@@ -33,22 +32,23 @@ use Rattle.word_meaning.specs.declared.mode.Tildes.{Tildes}
 use Rattle.word_meaning.specs.declared.mode.Tildes.TheVariants as tildes
 use Rattle.word_meaning.proofs.ReferencesKept as runs
 use Rattle.word_meaning.proofs.OperatorsKept as operators
+use Rattle.word_meaning.proofs.Respected.{Respected}
 
-module _ (Agrees : List Text → Type 0) (front : (xs ys : List Text) → Agrees (xs ++ ys) → Agrees xs) (m n : ℕ) (sub tub : Items → Doing Text) (k : (i : Items) → Part Agrees front m n (sub i) (tub i)) where
+module _ (R : (A : Type 0) → Doing A → Doing A → Type 0) (respected : Respected R) (sub tub : Items → Doing Text) (k : (i : Items) → R Text (sub i) (tub i)) where
   abbrev pub Pair : {A : Type 0} → Doing A → Doing A → Type 0
-  Pair {A} f g = Part Agrees front m n {A = A} f g
+  Pair {A} f g = R A f g
 
   done : {A : Type 0} (a : A) → Pair (pure a) (pure a)
-  done a = runs.done Agrees front m n a
+  done a = runs.done R respected a
 
   not_had : {A : Type 0} (f : _) → Pair {A = A} (refuse f) (refuse f)
-  not_had f = runs.not_had Agrees front m n f
+  not_had f = runs.not_had R respected f
 
   bind : {A B : Type 0} (f g : Doing A) (h j : A → Doing B) → Pair f g → ((a : A) → Pair (h a) (j a)) → Pair (f >>= h) (g >>= j)
-  bind f g h j = runs.bind Agrees front m n f g h j
+  bind f g h j = runs.bind R respected f g h j
 
   image : {A B : Type 0} (f g : Doing A) (h : A → B) → Pair f g → Pair (h <$> f) (h <$> g)
-  image f g h p = runs.image Agrees front m n f g h p
+  image f g h p = runs.image R respected f g h p
 
   -- ---- parts that are opened
 
@@ -78,14 +78,14 @@ module _ (Agrees : List Text → Type 0) (front : (xs ys : List Text) → Agrees
   each_part f g p xs = each_from_part f g p (given []) xs
 
   home_part : {X : Type 0} (f g : X → Doing Given) → ((x : X) → Pair (f x) (g x)) → (x : Bool × X) → Pair (home_or f x) (home_or g x)
-  home_part f g p x = runs.choice Agrees front m n x.0 _ _ _ _ (runs.seen_part Agrees front m n _) (p x.1)
+  home_part f g p x = runs.choice R respected x.0 _ _ _ _ (runs.seen_part R respected _) (p x.1)
 
   ansi_part : (t : Text) → Pair (ansi t) (ansi t)
-  ansi_part t = runs.choice Agrees front m n (has_refused_escape t) _ _ _ _ (not_had _) (done _)
+  ansi_part t = runs.choice R respected (has_refused_escape t) _ _ _ _ (not_had _) (done _)
 
   number_part : (g : Given) → Pair (number_of g) (number_of g)
   number_part g =
-      bind (one_text (bytes_of g)) (one_text (bytes_of g)) _ _ (runs.one_text_part Agrees front m n (bytes_of g)) (λ t. runs.evaluates_part Agrees front m n t)
+      bind (one_text (bytes_of g)) (one_text (bytes_of g)) _ _ (runs.one_text_part R respected (bytes_of g)) (λ t. runs.evaluates_part R respected t)
 
   substituted_part : (q : Bool) (items : Items) → Pair (substituted sub q items) (substituted tub q items)
   substituted_part q items = image (sub items) (tub items) _ (k items)
@@ -111,31 +111,31 @@ module _ (Agrees : List Text → Type 0) (front : (xs ys : List Text) → Agrees
     slice_length_part (Some ss) = image _ _ Some (slice_number_part ss)
 
     reference_part : (r : Ref) → Pair (referred (index sub i) r) (referred (index tub j) r)
-    reference_part r = runs.referred_part Agrees front m n (index sub i) (index tub j) index_part r
+    reference_part r = runs.referred_part R respected (index sub i) (index tub j) index_part r
 
     -- ---- operators
 
     shown_part : (how : Mode) (q : Bool) (found : Found) → Pair (shown how q found) (shown how q found)
-    shown_part how q found = operators.shown_part Agrees front m n how q found
+    shown_part how q found = operators.shown_part R respected how q found
 
     assigned_part : (q : Bool) (place : Place) (g : Given) → Pair (assigned_value sub i q place g) (assigned_value tub j q place g)
     assigned_part q place g =
-        bind (assigns place (bytes_of g)) (assigns place (bytes_of g)) _ _ (operators.assigns_part Agrees front m n place (bytes_of g)) (λ u. done _)
+        bind (assigns place (bytes_of g)) (assigns place (bytes_of g)) _ _ (operators.assigns_part R respected place (bytes_of g)) (λ u. done _)
 
     assign_part : (how : Mode) (q lacking : Bool) (x : Text) (ws : List PW) (found : Found)
         → Pair (assign_at sub i how q lacking x ws found) (assign_at tub j how q lacking x ws found)
     assign_part how q lacking x ws (One t None) = not_had _
     assign_part how q lacking x ws (One t (Some place)) =
-        runs.choice Agrees front m n lacking _ _ _ _ (bind _ _ _ _ (operand_text_part tildes.AtStart ws) (assigned_part q place)) (shown_part how q (One t (Some place)))
+        runs.choice R respected lacking _ _ _ _ (bind _ _ _ _ (operand_text_part tildes.AtStart ws) (assigned_part q place)) (shown_part how q (One t (Some place)))
     assign_part how q lacking x ws (Many star source) = not_had _
 
     value_part : (how : Mode) (q lacking : Bool) (x : Text) (found : Found) (d : Deed) (ws : List PW)
         → Pair (value_at sub i how q lacking x found d ws) (value_at tub j how q lacking x found d ws)
-    value_part how q lacking x found Default ws = runs.choice Agrees front m n lacking _ _ _ _ (operand_value_part how ws) (shown_part how q found)
+    value_part how q lacking x found Default ws = runs.choice R respected lacking _ _ _ _ (operand_value_part how ws) (shown_part how q found)
     value_part how q lacking x found Assign ws = assign_part how q lacking x ws found
     value_part how q lacking x found Fail ws =
-        runs.choice Agrees front m n lacking _ _ _ _ (bind _ _ _ _ (operand_text_part tildes.AtStart ws) (λ g. not_had _)) (shown_part how q found)
-    value_part how q lacking x found Other ws = runs.choice Agrees front m n lacking _ _ _ _ (done _) (operand_value_part how ws)
+        runs.choice R respected lacking _ _ _ _ (bind _ _ _ _ (operand_text_part tildes.AtStart ws) (λ g. not_had _)) (shown_part how q found)
+    value_part how q lacking x found Other ws = runs.choice R respected lacking _ _ _ _ (done _) (operand_value_part how ws)
 
     replacement_part : (other : Option (List PW)) → Pair (replacement sub i other) (replacement tub j other)
     replacement_part None = done []
@@ -145,21 +145,21 @@ module _ (Agrees : List Text → Type 0) (front : (xs ys : List Text) → Agrees
     op_part how q x found (Op-F.Op::Value op ws) = value_part how q (lacks op found) x found (deed op) ws
     op_part how q x found (Op-F.Strip op ws) =
         bind _ _ _ _ (operand_text_part tildes.AtStart ws)
-        (λ g. bind (strips op g.marks found) (strips op g.marks found) _ _ (operators.strips_part Agrees front m n op g.marks found) (shown_part how q))
+        (λ g. bind (strips op g.marks found) (strips op g.marks found) _ _ (operators.strips_part R respected op g.marks found) (shown_part how q))
     op_part how q x found (Op-F.Replace op ws other) =
         bind _ _ _ _ (operand_text_part tildes.AtStart ws)
-        (λ g. bind (compiled g.marks) (compiled g.marks) _ _ (operators.compiled_part Agrees front m n g.marks)
+        (λ g. bind (compiled g.marks) (compiled g.marks) _ _ (operators.compiled_part R respected g.marks)
         (λ form. bind _ _ _ _ (replacement_part other)
-        (λ t. bind (replaces op g.marks form t found) (replaces op g.marks form t found) _ _ (operators.replaces_part Agrees front m n op g.marks form t found) (shown_part how q))))
+        (λ t. bind (replaces op g.marks form t found) (replaces op g.marks form t found) _ _ (operators.replaces_part R respected op g.marks form t found) (shown_part how q))))
     op_part how q x found (Op-F.Op::Case op ws) =
         bind _ _ _ _ (operand_text_part tildes.Nowhere ws)
         (λ g. bind (changes_case op (case_pattern ws g.marks) found) (changes_case op (case_pattern ws g.marks) found) _ _
-        (operators.changes_case_part Agrees front m n op (case_pattern ws g.marks) found) (shown_part how q))
+        (operators.changes_case_part R respected op (case_pattern ws g.marks) found) (shown_part how q))
     op_part how q x found (Op-F.Transform b) = not_had _
     op_part how q x found (Op-F.Slice from len) =
         bind _ _ _ _ (slice_number_part from)
         (λ a. bind _ _ _ _ (slice_length_part len)
-        (λ b. bind (slices x a b found) (slices x a b found) _ _ (operators.slices_part Agrees front m n x a b found) (shown_part how q)))
+        (λ b. bind (slices x a b found) (slices x a b found) _ _ (operators.slices_part R respected x a b found) (shown_part how q)))
 
     operated_part : (how : Mode) (q : Bool) (x : Text) (o : Option Op) (found : Found) → Pair (operated sub i how q x o found) (operated tub j how q x o found)
     operated_part how q x None found = shown_part how q found
@@ -172,7 +172,7 @@ module _ (Agrees : List Text → Type 0) (front : (xs ys : List Text) → Agrees
     indirect_part : (how : Mode) (q : Bool) (x : Text) (o : Option Op) (asks : Bool) (found : Found)
         → Pair (indirect sub i how q x o asks found) (indirect tub j how q x o asks found)
     indirect_part how q x o true found = shown_part how q (with_indices found)
-    indirect_part how q x o false found = runs.looking Agrees front m n _ _ (λ at. pointed_part how q x o (whole_ref (text_found found at)))
+    indirect_part how q x o false found = runs.looking R respected _ _ (λ at. pointed_part how q x o (whole_ref (text_found found at)))
 
     param_part : (how : Mode) (q : Bool) (p : ParamLayer) → Pair (param_at sub i how q p) (param_at tub j how q p)
     param_part how q (Param-F.Length r) = image _ _ _ (reference_part r)

@@ -1,64 +1,54 @@
--- Two runs side by side: limits, references and arithmetic.
-use Rattle.std.proofs.Common.{ℕ, ◌+◌, List, [], ◌∷◌, ◌++◌, Bool, Option, Some, None, sym, append-nil, length}
-use Rattle.std.proofs.Math.Nat.{min-le_right}
+-- Limits, references and arithmetic: what is respected holds of them.
+use Rattle.std.proofs.Common.{ℕ, ◌+◌, List, [], ◌∷◌, Bool, true, false, Option, Some, None, length}
 use Rattle.std.specs.Prelude.{ℤ, ◌==◌, nat_le, if◌then◌else◌, Result, Ok, Err}
-use Rattle.bash_arith.specs.Outcome as arith_state
-use Rattle.bash_arith.specs.Value.{arithmetic}
-use Rattle.bash_cond.specs.Arithmetic.{evaluates, ends_as, variables_of}
+use Rattle.bash_cond.specs.Arithmetic.{evaluates}
 use Rattle.eb_bytes.specs.Text.{Text}
 use Rattle.eb_syntax.specs.Tree.{Ref}
 use Rattle.eb_syntax.specs.declared.parts.RefOf.TheVariants as ref
 use Rattle.eb_syntax.specs.declared.tree.SubPart.{SubPart}
-use Rattle.shell_state.specs.Host.{Later}
-use Rattle.shell_state.specs.Outcome.{Ended, Doing, ◌>>=◌, ◌<$>◌, asked_of, left_of, pure, refuse}
+use Rattle.shell_state.specs.Outcome.{Doing, ◌>>=◌, ◌<$>◌, pure, refuse}
 use Rattle.shell_state.specs.Spending.{list_cost, spend, text_cost}
 use Rattle.shell_state.specs.State.{State}
 use Rattle.shell_state.specs.declared.fault.Fault.{Fault}
-use Rattle.shell_state.proofs.Kept.{Part, here, plain, pure_part, refuse_part, bind_part, cond_part, state_part, spend_part}
 use Rattle.shell_vars.specs.Calls as call
 use Rattle.shell_vars.specs.Refused.{is_refused}
 use Rattle.shell_vars.specs.Value.{is_short}
 use Rattle.shell_vars.specs.declared.error.VarErr.{VarErr}
 use Rattle.word_meaning.specs.Limits.{all_fields, all_fit, fields_fit, fits, one_text}
 use Rattle.word_meaning.specs.References.{element_found, may_read, referred, seen, special, star_of, subscripted}
+use Rattle.word_meaning.proofs.Respected.{Respected}
 
--- an evaluation gives no steps back, and asks for no names
-ended_later : (t : Text) (o : arith_state.Outcome) (at : State) → Later at (left_of (ends_as t o at)) (asked_of (ends_as t o at))
-ended_later t (arith_state.Ended n s) at = record { less = min-le_right s.left at.left; more = []; kept = sym (append-nil at.host.asked) }
-ended_later t (arith_state.Faulted error s) at = record { less = min-le_right s.left at.left; more = []; kept = sym (append-nil at.host.asked) }
-ended_later t (arith_state.Changed s o) at = ended_later t o at
-
-module _ (Agrees : List Text → Type 0) (front : (xs ys : List Text) → Agrees (xs ++ ys) → Agrees xs) (m n : ℕ) where
+module _ (R : (A : Type 0) → Doing A → Doing A → Type 0) (respected : Respected R) where
   abbrev pub Pair : {A : Type 0} → Doing A → Doing A → Type 0
-  Pair {A} f g = Part Agrees front m n {A = A} f g
+  Pair {A} f g = R A f g
 
   pub done : {A : Type 0} (a : A) → Pair (pure a) (pure a)
-  done a = pure_part Agrees front m n a
+  done a = respected.done _ a
 
   pub not_had : {A : Type 0} (f : Fault) → Pair {A = A} (refuse f) (refuse f)
-  not_had f = refuse_part Agrees front m n f
+  not_had f = respected.refused _ f
 
   pub bind : {A B : Type 0} (f g : Doing A) (h j : A → Doing B) → Pair f g → ((a : A) → Pair (h a) (j a)) → Pair (f >>= h) (g >>= j)
-  bind f g h j = bind_part Agrees front m n f g h j
+  bind f g h j = respected.bound _ _ f g h j
 
   pub image : {A B : Type 0} (f g : Doing A) (h : A → B) → Pair f g → Pair (h <$> f) (h <$> g)
   image f g h p = bind f g _ _ p (λ a. done (h a))
 
   pub choice : {A : Type 0} (b : Bool) (f g h k : Doing A) → Pair f g → Pair h k → Pair (if b then f else h) (if b then g else k)
-  choice b f g h k = cond_part Agrees front m n b f g h k
+  choice true f g h k p q = p
+  choice false f g h k p q = q
 
   pub looking : {A : Type 0} (f g : State → Doing A) → ((x : State) → Pair (f x) (g x)) → Pair (λ at. f at at) (λ at. g at at)
-  looking f g = state_part Agrees front m n f g
+  looking f g = respected.looked _ f g
 
   pub spent : (k : ℕ) → Pair (spend k) (spend k)
-  spent k = spend_part Agrees front m n k
+  spent k = respected.spent k
 
   pub seen_part : {A : Type 0} (look : State → A) → Pair (seen look) (seen look)
-  seen_part look at le lf = plain Agrees front at (Ended (look at) at) (here at)
+  seen_part look = looking (λ at. pure (look at)) (λ at. pure (look at)) (λ at. done (look at))
 
   pub evaluates_part : (t : Text) → Pair (evaluates t) (evaluates t)
-  unfolding evaluates
-  evaluates_part t at le lf = plain Agrees front at (evaluates t at) (ended_later t (arith_state.last (arithmetic t (variables_of at))) at)
+  evaluates_part t = respected.evaluated t
 
   -- ---- limits
 

@@ -7,6 +7,7 @@ use Rattle.eb_syntax.specs.declared.tree.Word.{Word}
 use Rattle.shell_state.specs.Host.{Later}
 use Rattle.shell_state.specs.Outcome.{Doing, asked_of, left_of}
 use Rattle.shell_state.specs.State.{State}
+use Rattle.word_meaning.specs.Closing.{Closes}
 use Rattle.word_meaning.specs.Lists.{fields}
 use Rattle.word_meaning.specs.Literals.{elements}
 use Rattle.word_meaning.specs.Texts.{arith_text, assigned, here_text, pattern, subscript_text, text}
@@ -38,3 +39,19 @@ TextsLast =
 -- and the literal of an array
 abbrev pub ElementsLast : Type 0
 ElementsLast = (sub : Items → Doing Text) → SubstitutionsLast sub → (ws : List Word) → Lasts (elements sub ws)
+
+-- each substitution closes what it opens
+abbrev pub SubstitutionsClose : (Items → Doing Text) → Type 0
+SubstitutionsClose sub = (i : Items) → Closes (sub i)
+
+-- then every expansion does: those of words,
+abbrev pub ExpansionsClose : Type 0
+ExpansionsClose =
+    (sub : Items → Doing Text) → SubstitutionsClose sub → (ws : List Word) (w : Word)
+    → Closes (fields sub ws) × Closes (elements sub ws) × Closes (assigned sub w) × Closes (text sub w) × Closes (pattern sub w)
+
+-- and those of other texts
+abbrev pub TextsClose : Type 0
+TextsClose =
+    (sub : Items → Doing Text) → SubstitutionsClose sub → (h : HereText) (aps : ArithText) (s : Sub)
+    → Closes (here_text sub h) × Closes (arith_text sub aps) × Closes (subscript_text sub s)

@@ -1,3 +1,4 @@
+pub mod Closing
 pub mod Laws
 pub mod Layers
 pub mod Limits
@@ -9,4 +10,5 @@ pub mod Pathnames
 pub mod References
 pub mod Texts
 pub mod Tilde
+pub mod Variables
 pub mod Words

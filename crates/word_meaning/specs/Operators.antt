@@ -2,6 +2,7 @@
 use Rattle.std.specs.Prelude.{ℕ, ℤ, Bool, true, false, ◌&&◌, ◌||◌, not, is_none, List, [], ◌∷◌, decimal, length, map, unwrap_or, Option, Some, None, Result, Ok, Err, if◌then◌else◌}
 use Rattle.std.specs.FinMap as finite
 use Rattle.std.specs.List.{join_with_byte}
+use Rattle.bash_assign.specs.Assignments.{assigns as gives}
 use Rattle.bash_params.specs.Case.{case_changed}
 use Rattle.bash_params.specs.Cost.{match_cost, replace_cost}
 use Rattle.bash_params.specs.Cut.{list_sliced, sliced, substring}
@@ -28,14 +29,9 @@ use Rattle.eb_syntax.specs.declared.parts.StripOp.TheVariants as strip_sign
 use Rattle.eb_syntax.specs.declared.parts.ValueOp.{ValueOp}
 use Rattle.eb_syntax.specs.declared.parts.ValueOp.TheVariants as by
 use Rattle.shell_marks.specs.declared.marked.Mark.TheVariants.{Literal}
-use Rattle.shell_state.specs.Faults.{variable_fault}
-use Rattle.shell_state.specs.Outcome.{Doing, ◌>>=◌, ◌>>◌, ◌<$>◌, change, pure, refuse}
+use Rattle.shell_state.specs.Outcome.{Doing, ◌>>=◌, ◌>>◌, ◌<$>◌, pure, refuse}
 use Rattle.shell_state.specs.Spending.{spend}
-use Rattle.shell_state.specs.State.{State}
 use Rattle.shell_state.specs.declared.fault.Fault.TheVariants as fault
-use Rattle.shell_vars.specs.Calls as call
-use Rattle.shell_vars.specs.Store.{Store}
-use Rattle.shell_vars.specs.declared.error.VarErr.{VarErr}
 use Rattle.word_meaning.specs.Limits.{fits}
 use Rattle.word_meaning.specs.Marks.{Given, Marks, given, emitted, has_elements, listed, unquoted}
 use Rattle.word_meaning.specs.References.{Array, Arguments, Found, Many, One, Place, Source, first_of_ifs, seen, shell_name, texts}
@@ -115,16 +111,9 @@ is_unset_list (Many star source) = not star && not (has_elements (texts source))
 abbrev pub no_other : (quoted : Bool) → Found → Given
 no_other quoted found = record { marks = []; has_no_elements = quoted && is_unset_list found }
 
-abbrev pub with_store : Store → State → State
-with_store store at = record at { store = store }
-
-abbrev pub after_assignment : Text → Result Store VarErr → Doing (Unit {0})
-after_assignment name (Ok store) = change (with_store store)
-after_assignment name (Err refused) = refuse (variable_fault name refused)
-
 -- `=` gives a text to the variable or the element
 abbrev pub assigns : Place → Text → Doing (Unit {0})
-assigns place t = λ at. after_assignment place.name (call.assign place.name place.index t at.store) at
+assigns place t = gives place.name place.index t
 
 -- ---- patterns
 

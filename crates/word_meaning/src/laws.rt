@@ -1,6 +1,6 @@
-//! Laws: facts about the definitions that no single call shows. Each says that an expansion gives no step back and loses
-//! no name that was asked, where this holds of each substitution in it.
-ghost use Rattle.word_meaning.specs.Laws.{ElementsLast, FieldsLast, TextsLast, WordsLast};
+//! Laws: facts about the definitions that no single call shows. The first four say that an expansion gives no step back
+//! and loses no name that was asked, the others that it closes what it opens, where this holds of each substitution in it.
+ghost use Rattle.word_meaning.specs.Laws.{ElementsLast, ExpansionsClose, FieldsLast, TextsClose, TextsLast, WordsLast};
 
 /// It holds of a list of words.
 pub fn fields_last()
@@ -20,4 +20,15 @@ pub fn texts_last()
 /// It holds of the literal of an array.
 pub fn elements_last()
     ensures { ElementsLast }
+{}
+
+/// An expansion of words closes what it opens: a list of words, an array's literal, an assigned value, a word that gives one
+/// text, and a pattern.
+pub fn expansions_close()
+    ensures { ExpansionsClose }
+{}
+
+/// So does a here-document, an arithmetic text and the subscript of an assignment.
+pub fn texts_close()
+    ensures { TextsClose }
 {}
