@@ -2,6 +2,7 @@ ghost use Rattle.std.specs.Prelude.{◌<◌, length};
 ghost use Rattle.bash_cursor.specs.Reads.{Reads};
 ghost use Rattle.bash_lexer.specs.At.{body_at, items_at};
 
+use crate::lists::{no_body, no_items};
 use bash_cursor::{Cursor, LexErr};
 use eb_syntax::{Body, Items};
 use probe_base::{Answer, Fault};
@@ -11,7 +12,7 @@ use std::cell::Cell;
 const LONGEST: usize = 4_294_967_294;
 
 /// `word TEXT`: `place` and the number of bytes that a word at the start of the text takes; `no` where none stands there;
-/// `deep` and the line where it nests too deep; `commands` where commands stand in it, which this does not read.
+/// `deep` and the line where it nests too deep; `commands` where it would have to read one, which it does not.
 pub fn word(text: &[u8], answer: &mut Answer) -> Result<(), Fault> {
     if text.len() > LONGEST {
         return Err(Fault::NoRequest);
@@ -45,16 +46,10 @@ fn end_of_word(text: &[u8], answer: &Answer, has_commands: &Cell<bool>) -> Resul
 {
     let items = |c: &mut Cursor<'_>| -> Result<Items, LexErr>
         ensures { Reads (items_at c.old.room) c.old result c.new }
-    {
-        has_commands.set(true);
-        Err(LexErr::Memory)
-    };
+    { no_items(c, has_commands) };
     let body = |c: &mut Cursor<'_>| -> Result<Body, LexErr>
         ensures { Reads (body_at c.old.room) c.old result c.new }
-    {
-        has_commands.set(true);
-        Err(LexErr::Memory)
-    };
+    { no_body(c, has_commands) };
     let mut c = Cursor::new(answer.alloc(), text);
     bash_words::word(&mut c, &items, &body)?;
     Ok(c.place())
