@@ -9,8 +9,9 @@ ghost use Rattle.eb_grammar.specs.Grammar.{inside, rules_in};
 ghost use Rattle.eb_grammar.specs.Peg.{many};
 
 use crate::lists::{list_with, put};
-use bash_cursor::{Cursor, LexErr, or_back};
+use bash_cursor::{Cursor, LexErr, or_back, or_remember};
 use eb_syntax::{Piece, RIn, Regex, RegexPart};
+use grammar_laws::Nesting;
 use sqlite_items::Items as List;
 
 // A regular expression or a blank.
@@ -58,7 +59,7 @@ fn group_inside<R: Fn(&mut Cursor<'_>) -> Result<Regex, LexErr>>(
     Ok(found)
 }
 
-// `(..)`
+// `(..)`. Where the cursor knows that it has no reading here, it is not read again.
 #[tactic(auto, using(bash_cursor::proofs::Nesting::nest_no, bash_cursor::proofs::Nesting::nest_deep, bash_cursor::proofs::Nesting::nest_in))]
 fn group<R: Fn(&mut Cursor<'_>) -> Result<Regex, LexErr>>(
     c: &mut Cursor<'_>,
@@ -67,12 +68,12 @@ fn group<R: Fn(&mut Cursor<'_>) -> Result<Regex, LexErr>>(
     requires { ReadsBelow regex_at c.old.room (R.pre regex.now) (R.post regex.now) }
     ensures { Reads (regex_group_at c.old.room) c.old result c.new }
 {
-    if !c.sees(b"(") {
+    if !c.sees(b"(") || c.known(Nesting::RegexGroup) {
         return Err(LexErr::NoParse);
     }
     let start = c.here();
     c.enter()?;
-    let found = or_back!(c, start, group_inside(c, regex));
+    let found = or_remember!(c, start, Nesting::RegexGroup, group_inside(c, regex));
     c.leave();
     Ok(found)
 }
