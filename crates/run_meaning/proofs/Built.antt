@@ -1,18 +1,17 @@
 -- The layer of a node of a command that is built.
 use Rattle.std.proofs.Common.{◌≡◌, ℕ, Bool, List, Option, sym, ap, ◌∙◌}
 use Rattle.eb_bytes.specs.Text.{Text}
-use Rattle.eb_syntax.specs.Tree.{ArithText, Assigned, Coproc, Elif, FuncDef, Item, Or, Sub}
+use Rattle.eb_syntax.specs.Tree.{ArithText, Assigned, Elif, Item, Or, Sub}
 use Rattle.eb_syntax.specs.declared.parts.BinOp.{BinOp}
 use Rattle.eb_syntax.specs.declared.parts.ClauseEnd.{ClauseEnd}
 use Rattle.eb_syntax.specs.declared.parts.DeclName.{DeclName}
 use Rattle.eb_syntax.specs.declared.parts.FileOp.{FileOp}
-use Rattle.eb_syntax.specs.declared.tree.AP.TheOpen.{Argument-F, Command-F, Compound-F, Not-F, Prefix-F, Primary-F, Redir-F, TailPart-F}
-use Rattle.eb_syntax.specs.declared.tree.AP.TheViews.{out-roll-Argument, out-roll-Assign, out-roll-Clause, out-roll-Command, out-roll-Compound, out-roll-Decl, out-roll-Items, out-roll-Not, out-roll-Prefix, out-roll-Primary, out-roll-Redir, out-roll-Simple, out-roll-Tail, out-roll-TailPart}
-use Rattle.eb_syntax.specs.declared.tree.Argument.{Argument, out-Argument}
-use Rattle.eb_syntax.specs.declared.tree.Argument.TheVariants as argument
+use Rattle.eb_syntax.specs.declared.tree.AP.TheOpen.{Command-F, Compound-F, Not-F, Prefix-F, Primary-F, Redir-F, TailPart-F}
+use Rattle.eb_syntax.specs.declared.tree.AP.TheViews.{out-roll-Assign, out-roll-Clause, out-roll-Command, out-roll-Compound, out-roll-Decl, out-roll-Items, out-roll-Not, out-roll-Prefix, out-roll-Primary, out-roll-Redir, out-roll-Simple, out-roll-Tail, out-roll-TailPart}
+use Rattle.eb_syntax.specs.declared.tree.Argument.{Argument}
 use Rattle.eb_syntax.specs.declared.tree.Assign.{Assign, out-Assign, roll-Assign}
 use Rattle.eb_syntax.specs.declared.tree.Clause.{Clause, out-Clause, roll-Clause}
-use Rattle.eb_syntax.specs.declared.tree.Command.{Command, out-Command}
+use Rattle.eb_syntax.specs.declared.tree.Command.{out-Command}
 use Rattle.eb_syntax.specs.declared.tree.Command.TheVariants as command
 use Rattle.eb_syntax.specs.declared.tree.Compound.{Compound, out-Compound}
 use Rattle.eb_syntax.specs.declared.tree.Compound.TheVariants as compound

@@ -1,5 +1,5 @@
 -- What is opened round a part is closed at its end; loops, and the commands of the host.
-use Rattle.std.proofs.Common.{◌≡◌, ℕ, zero, suc, ◌+◌, ◌≤◌, List, [], ◌∷◌, ◌++◌, Option, Some, None, Bool, true, false, length, take, refl, sym, ap, subst, ◌∙◌, arith, length-append}
+use Rattle.std.proofs.Common.{◌≡◌, ℕ, zero, suc, ◌+◌, ◌≤◌, List, [], ◌∷◌, ◌++◌, Option, Some, None, Bool, true, false, length, refl, sym, ap, subst, ◌∙◌, arith, length-append}
 use Rattle.std.proofs.lemmas.List.{length-set, length-take-le}
 use Rattle.std.specs.Prelude.{◌||◌, codes, if◌then◌else◌}
 use Rattle.bash_calls.specs.Redirections.{made, takes_input}
@@ -9,11 +9,10 @@ use Rattle.eb_syntax.specs.declared.tree.Items.{Items}
 use Rattle.eb_syntax.specs.declared.tree.Redir.{Redir, out-Redir}
 use Rattle.shell_state.specs.Host.{Begins, Begun, Finished, Sourced, Refused, NotMine}
 use Rattle.shell_state.specs.Opening.{bringing_back, closed, is_too_deep, opens, within}
-use Rattle.shell_state.specs.Output.{captured, may_put, prints, put, puts, with_text}
+use Rattle.shell_state.specs.Output.{may_put, prints, put, puts, with_text}
 use Rattle.shell_state.specs.Spending.{script_cost, spend, text_cost}
 use Rattle.shell_state.specs.State.{State}
 use Rattle.shell_state.specs.Outcome.{Outcome, Ended, Faulted, Doing, ◌>>=◌, ◌>>◌, and_then, change, pure, refuse}
-use Rattle.shell_state.specs.declared.fault.Fault.{Fault}
 use Rattle.shell_state.specs.declared.fault.Fault.TheVariants as fault
 use Rattle.shell_state.specs.declared.io.Io.{Io}
 use Rattle.shell_state.specs.declared.io.Target.{Target}
@@ -30,7 +29,7 @@ use Rattle.run_meaning.specs.Laws.{CloseHost, ClosePlain, ClosesTo}
 use Rattle.run_meaning.specs.Layers.{RedirLayer}
 use Rattle.run_meaning.specs.Lists.{items}
 use Rattle.run_meaning.specs.Loops.{arith_turns, goes_on, looping, loops_back, next_turn, one_more_loop, spent, tested, turn_or_end, while_turns}
-use Rattle.run_meaning.specs.Redirections.{connects, io_back, redir_at, redirected_back, redirects, redirs, take_input, target, under, with_io}
+use Rattle.run_meaning.specs.Redirections.{connects, io_back, redir_at, redirected_back, redirects, redirs, take_input, target, under}
 use Rattle.run_meaning.specs.Simple.{called_back, entered, hosted, names_itself, script_back, script_begins, source}
 use Rattle.run_meaning.specs.Subshells.{apart, capturing, output_of, returned, unchanged}
 use Rattle.run_meaning.proofs.PartsKept.{next_turn_part, status_part}
@@ -62,7 +61,7 @@ brought_back back at begun (Faulted why left asked) e h = tt
 within_closed : (o : Opened) (f : Doing End) → Closes f → Closes (within o f)
 within_closed o f c at =
     round_opened at o at (λ r. and_then (and_then r (λ _. f)) (λ a. change (closed at) >> pure a)) (is_too_deep o at.opened) refl
-    (brought_back (closed at) at (opened_in o at) (f (opened_in o at)) (c (opened_in o at)) (λ p e. ap (λ w. record w { parts = at.opened }) e)) tt
+    (brought_back (closed at) at (opened_in o at) (f (opened_in o at)) (c (opened_in o at)) (λ p e. ap {A = Open} (λ w. record w { parts = at.opened }) e)) tt
 
 -- ---- frames
 
@@ -77,7 +76,7 @@ popped (f ∷ fs) = refl
 framed_closed : (q : Doing (Unit {0})) (f : Doing End) → Closes q → Closes f → Closes (bringing_back without_frame (change with_prefix >> q >> f))
 framed_closed q f c d at =
     brought_back (without_frame at) at (with_prefix at) (and_then (q (with_prefix at)) (λ _. f)) (then_closed (with_prefix at) (q (with_prefix at)) (λ _. f) (c (with_prefix at)) (λ _. d))
-    (λ p e. ap (λ ks. record (open_in p) { frames = ks }) (popped p.store) ∙ ap (λ w. record w { frames = without_first w.frames }) e)
+    (λ p e. ap {A = List Kind} (λ ks. record (open_in p) { frames = ks }) (popped p.store) ∙ ap {A = Open} (λ w. record w { frames = without_first w.frames }) e)
 
 -- ---- calls and scripts
 
@@ -93,8 +92,8 @@ called_closed name args f c at =
     (is_too_deep opened.Call at.opened) refl
     (brought_back (called_back at) at begun (and_then (names_itself name begun) (λ _. f)) (then_closed begun (names_itself name begun) (λ _. f) (names_closed name begun) (λ _. c))
     (λ p e.
-    ap (λ ks. record (open_in p) { frames = ks; parts = at.opened; loops = at.loops }) (popped p.store)
-    ∙ ap (λ w. record w { frames = without_first w.frames; parts = at.opened; loops = at.loops }) e)) tt
+    ap {A = List Kind} (λ ks. record (open_in p) { frames = ks; parts = at.opened; loops = at.loops }) (popped p.store)
+    ∙ ap {A = Open} (λ w. record w { frames = without_first w.frames; parts = at.opened; loops = at.loops }) e)) tt
 
 sourced_from : (f : Doing End) → Closes f → (at p : State) → SameOpen at p
     → EndsClosed at (and_then (and_then (and_then (opens opened.Source p) (λ _. change script_begins)) (λ _. f)) (λ how. change (script_back at) >> pure how))
@@ -103,7 +102,7 @@ sourced_from f c at p e =
     round_opened at opened.Source p (λ r. and_then (and_then (and_then r (λ _. change script_begins)) (λ _. f)) (λ how. change (script_back at) >> pure how))
     (is_too_deep opened.Source p.opened) refl
     (brought_back (script_back at) at begun (f begun) (c begun)
-    (λ q h. ap (λ w. record w { parts = at.opened; loops = at.loops }) h ∙ ap (λ w. record w { parts = at.opened; loops = at.loops }) e)) tt
+    (λ q h. ap {A = Open} (λ w. record w { parts = at.opened; loops = at.loops }) h ∙ ap {A = Open} (λ w. record w { parts = at.opened; loops = at.loops }) e)) tt
 
 sourced_after : (f : Doing End) → Closes f → (at : State) (r : Outcome (Unit {0})) → EndsClosed at r
     → EndsClosed at (and_then (and_then (and_then (and_then r (λ _. opens opened.Source)) (λ _. change script_begins)) (λ _. f)) (λ how. change (script_back at) >> pure how))
@@ -117,7 +116,7 @@ sourced_closed bytes f c at = sourced_after f c at (spend (script_cost bytes) at
 -- ---- subshells
 
 returned_open : (at p : State) → length at.io.captures ≤ length p.io.captures → SameOpen at (returned at p)
-returned_open at p le = ap (λ k. record (open_in at) { captures = k }) (length-take-le (length at.io.captures) p.io.captures le)
+returned_open at p le = ap {A = ℕ} (λ k. record (open_in at) { captures = k }) (length-take-le (length at.io.captures) p.io.captures le)
 
 returned_after : (at begun : State) (r : Outcome End) → EndsClosed begun r → length at.io.captures ≤ length begun.io.captures
     → EndsClosed at (and_then r (λ how after. Ended (output_of at after) (returned at after)))
@@ -167,7 +166,7 @@ right_none false d e = e
 
 both_redirected : (b d : Bool) (u v w : Open) → IsRedirected b u v → IsRedirected d v w → IsRedirected (b || d) u w
 both_redirected b d u v w g h = record {
-  rest = h.rest ∙ ap (λ o. record o { input = w.input; out = w.out; err = w.err }) g.rest;
+  rest = h.rest ∙ ap {A = Open} (λ o. record o { input = w.input; out = w.out; err = w.err }) g.rest;
   input = λ e. h.input (right_none b d e) ∙ g.input (left_none b d e);
 }
 
@@ -212,12 +211,12 @@ back_open false at q = refl
 
 redirs_closed : (takes : Bool) (before inner after : Open) → record inner { parts = before.parts } ≡ before → IsRedirected takes inner after → io_open takes before after ≡ before
 redirs_closed true before inner after e h =
-    ap (λ w. record w { parts = before.parts; input = before.input; out = before.out; err = before.err }) h.rest
-    ∙ ap (λ w. record w { input = before.input; out = before.out; err = before.err }) e
+    ap {A = Open} (λ w. record w { parts = before.parts; input = before.input; out = before.out; err = before.err }) h.rest
+    ∙ ap {A = Open} (λ w. record w { input = before.input; out = before.out; err = before.err }) e
 redirs_closed false before inner after e h =
-    ap (λ w. record w { parts = before.parts; out = before.out; err = before.err }) h.rest
-    ∙ ap (λ i. record inner { parts = before.parts; input = i; out = before.out; err = before.err }) (h.input refl)
-    ∙ ap (λ w. record w { out = before.out; err = before.err }) e
+    ap {A = Open} (λ w. record w { parts = before.parts; out = before.out; err = before.err }) h.rest
+    ∙ ap {A = Text} (λ i. record inner { parts = before.parts; input = i; out = before.out; err = before.err }) (h.input refl)
+    ∙ ap {A = Open} (λ w. record w { out = before.out; err = before.err }) e
 
 -- what follows redirections, and then inputs and outputs that are brought back
 after_part : (rs : List Redir) (at p : State) → IsRedirected (take_input rs) (open_in (opened_in opened.Redirs at)) (open_in p) → (o : Outcome End) → EndsClosed p o
@@ -244,7 +243,7 @@ redirected_closed sub c r rs f d at =
 
 looping_closed : (f : Doing End) → Closes f → Closes (looping f)
 looping_closed f c at =
-    brought_back (loops_back at) at (one_more_loop at) (f (one_more_loop at)) (c (one_more_loop at)) (λ p e. ap (λ w. record w { loops = at.loops }) e)
+    brought_back (loops_back at) at (one_more_loop at) (f (one_more_loop at)) (c (one_more_loop at)) (λ p e. ap {A = Open} (λ w. record w { loops = at.loops }) e)
 
 turned_closed : (f : ℕ → Doing End) → ((s : ℕ) → Closes (f s)) → (how : End) → Closes (next_turn f how)
 turned_closed f c how = next_turn_part Closing closing f f c how
@@ -256,7 +255,7 @@ if_closed : (b : Bool) (f g : Doing End) → Closes f → Closes g → Closes (i
 if_closed true f g c d = c
 if_closed false f g c d = d
 
-spent_closed : {A : Type 0} → Closes (spent {A = A})
+spent_closed : Closes (spent {A = End})
 spent_closed at = tt
 
 turn_or_end_closed : (until : Bool) (last : ℕ) (f : Doing End) → Closes f → Closes (turn_or_end until last f)
@@ -270,7 +269,7 @@ tested_closed next go c d (Continues (suc zero)) = c
 tested_closed next go c d (Continues (suc (suc k))) = closing.done End (Continues (suc k))
 tested_closed next go c d Returns = closing.done End Returns
 
-one_after : {A B : Type 0} (f : Doing A) (h : A → Doing B) → Closes f → ((a : A) → Closes (h a)) → Closes (f >>= h)
+pub one_after : {A B : Type 0} (f : Doing A) (h : A → Doing B) → Closes f → ((a : A) → Closes (h a)) → Closes (f >>= h)
 one_after f h c d at = then_closed at (f at) h (c at) d
 
 while_closed : (n : ℕ) (until : Bool) (last : ℕ) (test body : Doing End) → Closes test → Closes body → Closes (while_turns n until last test body)
@@ -292,7 +291,7 @@ arith_closed (suc n) last test body after c d e =
 
 put_closed : (target : Target) (t : Text) (at : State) → SameOpen at (record at { io = put target t at.io })
 put_closed Drop t at = refl
-put_closed (Capture i) t at = ap (λ k. record (open_in at) { captures = k }) (length-set at.io.captures i (with_text i t at.io.captures))
+put_closed (Capture i) t at = ap {A = ℕ} (λ k. record (open_in at) { captures = k }) (length-set at.io.captures i (with_text i t at.io.captures))
 
 put_if_closed : (b : Bool) (target : Target) (t : Text) (at : State) → EndsClosed at (if b then Ended tt (record at { io = put target t at.io }) else refuse {A = Unit {0}} fault.ValueSize at)
 put_if_closed true target t at = put_closed target t at

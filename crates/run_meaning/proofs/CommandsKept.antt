@@ -1,15 +1,13 @@
 -- Commands: what is respected holds of them, where it holds of two ways to run the commands inside of them, and of all
 -- that opens and closes.
-use Rattle.std.proofs.Common.{ℕ, zero, suc, ◌≤◌, List, [], ◌∷◌, ◌++◌, Option, Some, None, Bool, true, false, not, length, map, refl}
+use Rattle.std.proofs.Common.{ℕ, zero, suc, List, [], ◌∷◌, ◌++◌, Option, Some, None, Bool, true, false, not, length, map, refl}
 use Rattle.std.specs.Prelude.{if◌then◌else◌, codes}
 use Rattle.std.specs.List.{list_any}
 use Rattle.eb_bytes.specs.Text.{Text}
-use Rattle.bash_cond.specs.Operators.{asks}
-use Rattle.bash_cond.specs.declared.operator.Question.{Question}
-use Rattle.bash_cond.specs.declared.operator.Question.TheVariants.{Same, Different, Before, After, Numbers, Files}
 use Rattle.eb_grammar.specs.Grammar.{script, Reading, Node, Refused as Unread, TooDeep}
 use Rattle.eb_syntax.specs.Tree.{And, ArithText, Assigned, Elif, HereText, Item, Joined, Or, Pipe, Sub as Subscript}
 use Rattle.eb_syntax.specs.declared.parts.AssignedOf.TheVariants as assigned
+use Rattle.eb_syntax.specs.declared.parts.BinOp.{BinOp}
 use Rattle.eb_syntax.specs.declared.parts.ClauseEnd.{ClauseEnd}
 use Rattle.eb_syntax.specs.declared.parts.ClauseEnd.TheVariants as clause
 use Rattle.eb_syntax.specs.declared.parts.DeclName.{DeclName}
@@ -23,14 +21,14 @@ use Rattle.eb_syntax.specs.declared.tree.Decl.{Decl, out-Decl}
 use Rattle.eb_syntax.specs.declared.tree.Items.{Items, out-Items}
 use Rattle.eb_syntax.specs.declared.tree.Not.{Not, out-Not}
 use Rattle.eb_syntax.specs.declared.tree.Primary.{out-Primary}
-use Rattle.eb_syntax.specs.declared.tree.Redir.{Redir, out-Redir}
+use Rattle.eb_syntax.specs.declared.tree.Redir.{Redir}
 use Rattle.eb_syntax.specs.declared.tree.Simple.{Simple, out-Simple}
 use Rattle.eb_syntax.specs.declared.tree.Word.{Word}
 use Rattle.shell_functions.specs.Funcs.{body_of}
 use Rattle.shell_state.specs.Host.{Begins}
 use Rattle.shell_state.specs.Spending.{script_cost}
 use Rattle.shell_state.specs.State.{State}
-use Rattle.shell_state.specs.Outcome.{Doing, ◌>>=◌, ◌>>◌, ◌<$>◌, pure, refuse, change}
+use Rattle.shell_state.specs.Outcome.{Doing, ◌>>=◌, ◌>>◌, ◌<$>◌, pure, refuse}
 use Rattle.shell_state.specs.declared.fault.Fault.{Fault}
 use Rattle.shell_state.specs.declared.fault.Fault.TheVariants as fault
 use Rattle.shell_state.specs.declared.opened.Opened.TheVariants as opened
@@ -42,7 +40,7 @@ use Rattle.run_meaning.specs.Conditions.{all, and_truth, any, binary, condition,
 use Rattle.run_meaning.specs.Declarations.{after_options, argument_at, argument_of, arguments, declared, declares_arguments, options_of, redirs_in, said}
 use Rattle.run_meaning.specs.Ends.{End, Goes, going, status, succeeded, truth_status}
 use Rattle.run_meaning.specs.Layers.{ArgumentLayer, CommandLayer, CompoundLayer, NotLayer, PrimaryLayer, RedirLayer}
-use Rattle.run_meaning.specs.Lists.{all_items, each_item, has_more, is_background, is_odd, is_time, items, joined, listed, pipe, runs_on, unless_refused}
+use Rattle.run_meaning.specs.Lists.{all_items, each_item, has_more, is_background, is_odd, is_time, items, joined, listed, pipe, runs_on}
 use Rattle.run_meaning.specs.Parts.{assigns_before, command_begins, redirs_before, redirs_of, words_of}
 use Rattle.run_meaning.specs.Redirections.{here_body, target, under}
 use Rattle.run_meaning.specs.Run.{command_at, defining}
@@ -52,7 +50,7 @@ use Rattle.run_meaning.specs.Values.{GivenArray, GivenText, bound as bound_to, m
 use Rattle.word_meaning.specs.Lists.{fields}
 use Rattle.word_meaning.specs.Texts.{pattern, text}
 use Rattle.run_meaning.proofs.Given.{bound_same, made_same}
-use Rattle.run_meaning.proofs.PartsKept.{SelfIfAny, nothing, something, bind as bind_both, builtin_part, by_state as by_state_both, changed as changed_both, changes_part, compared_part, done as done_both, either as either_both, evaluates_part, for_turns_part, going_part, image as image_both, inverted_part, matches_case_part, matches_part, next as next_both, no as no_both, refused_part, spends, status_part as status_both, unary_part}
+use Rattle.run_meaning.proofs.PartsKept.{SelfIfAny, nothing, something, bind as bind_both, between_part, builtin_part, by_state as by_state_both, changed as changed_both, changes_part, done as done_both, either as either_both, evaluates_part, for_turns_part, going_part, image as image_both, inverted_part, matches_case_part, next as next_both, no as no_both, refused_part, spends, status_part as status_both, unary_part}
 use Rattle.run_meaning.proofs.Surrounded.{Surrounded}
 use Rattle.word_meaning.proofs.Respected.{Respected}
 use Rattle.word_meaning.proofs.WordsKept.{arith_part, assigned_part, elements_part, fields_part, here_part, pattern_part, subscript_part, text_part}
@@ -147,13 +145,8 @@ module _ (R : (A : Type 0) → Doing A → Doing A → Type 0) (respected : Resp
 
     -- conditions
 
-    binary_part : (q : Question) (a b : Word) → Both (binary sub q a b) (binary tub q a b)
-    binary_part Same a b = bind _ _ _ _ (word_text a) (λ t. bind _ _ _ _ (word_pattern b) (λ ms. matches_part R respected true ms t))
-    binary_part Different a b = image _ _ not (bind _ _ _ _ (word_text a) (λ t. bind _ _ _ _ (word_pattern b) (λ ms. matches_part R respected true ms t)))
-    binary_part Before a b = bind _ _ _ _ (word_text a) (λ t. bind _ _ _ _ (word_text b) (λ u. compared_part R respected Before t u))
-    binary_part After a b = bind _ _ _ _ (word_text a) (λ t. bind _ _ _ _ (word_text b) (λ u. compared_part R respected After t u))
-    binary_part (Numbers r) a b = bind _ _ _ _ (word_text a) (λ t. bind _ _ _ _ (word_text b) (λ u. compared_part R respected (Numbers r) t u))
-    binary_part (Files r) a b = bind _ _ _ _ (word_text a) (λ t. bind _ _ _ _ (word_text b) (λ u. compared_part R respected (Files r) t u))
+    binary_part : (op : BinOp) (a b : Word) → Both (binary sub op a b) (binary tub op a b)
+    binary_part op a b = bind _ _ _ _ (word_text a) (λ t. bind _ _ _ _ (word_pattern b) (λ ms. between_part R respected op t ms))
 
     module _ (f g : Not → Doing Bool) (p : (t : Not) → Both (f t) (g t)) where
       all_part : (ts : List Not) → Both (all sub f ts) (all tub g ts)
@@ -175,7 +168,7 @@ module _ (R : (A : Type 0) → Doing A → Doing A → Type 0) (respected : Resp
       primary_part (Primary-F.Unary letter w) = bind _ _ _ _ (word_text w) (λ t. unary_part R respected letter t)
       primary_part (Primary-F.Primary::Word w) = bind _ _ _ _ (word_text w) (λ t. done _)
       primary_part (Primary-F.Matches w r) = no fault.RegexRefused
-      primary_part (Primary-F.Binary a op b) = binary_part (asks op) a b
+      primary_part (Primary-F.Binary a op b) = binary_part op a b
 
       not_part : (l : NotLayer) → Both (not_at sub f l) (not_at tub g l)
       not_part (Not-F.Not t) = image _ _ not (p t)

@@ -1,5 +1,6 @@
 -- Small cases, worked out by hand and beside bash.
-use Rattle.std.proofs.Common.{◌≡◌, ℕ, suc, ◌+◌, [], ◌∷◌, Some, None, true, false, refl, codes}
+use Rattle.std.proofs.Common.{◌≡◌, ℕ, suc, [], ◌∷◌, Some, None, true, false, refl, codes}
+use Rattle.bash_calls.specs.Redirections.{by_file, by_word}
 use Rattle.eb_bytes.specs.Text.{Text}
 use Rattle.eb_syntax.specs.declared.parts.DeclName.TheVariants as declaration
 use Rattle.eb_syntax.specs.declared.parts.ClauseEnd.TheVariants as clause
@@ -13,14 +14,14 @@ use Rattle.shell_state.specs.declared.fault.Fault.TheVariants as fault
 use Rattle.shell_state.specs.declared.io.Io.{Io}
 use Rattle.shell_state.specs.declared.io.Target.TheVariants.{Drop}
 use Rattle.shell_state.proofs.Kept.{here}
-use Rattle.run_meaning.specs.Builtins.{Said, Assigns, Plain, builtin, declaration_named, jumps_by, return_to, sets, shift, subscript_of, tests_bracketed, with_args, with_noglob}
+use Rattle.run_meaning.specs.Builtins.{Said, Assigns, Plain, declaration_named, jumps_by, return_to, sets, shift, subscript_of, tests_bracketed, with_args, with_noglob}
 use Rattle.run_meaning.specs.Cases.{after_clause}
 use Rattle.run_meaning.specs.Declarations.{after_options, argument_of, options_of}
 use Rattle.run_meaning.specs.Ends.{End, Goes, Breaks, Continues, Returns, going, status, turned, with_status}
-use Rattle.run_meaning.specs.Laws.{KeepPlain, Steady}
+use Rattle.run_meaning.specs.Laws.{CloseHost, ClosePlain, KeepPlain, Steady}
 use Rattle.run_meaning.specs.Lists.{all_items, inverted}
 use Rattle.run_meaning.specs.Loops.{for_turns, while_turns}
-use Rattle.run_meaning.specs.Redirections.{by_file, by_word, io_back}
+use Rattle.run_meaning.specs.Redirections.{io_back}
 use Rattle.run_meaning.specs.Simple.{by_host}
 use Rattle.run_meaning.specs.Subshells.{trimmed}
 use Rattle.run_meaning.specs.Values.{GivenText}
@@ -213,7 +214,7 @@ is_typeset : declaration_named (codes "typeset") ≡ Some declaration.Typeset
 is_typeset = refl
 
 -- what neither is a builtin nor a command of the host
-abbrev no_commands : Begins
+abbrev pub no_commands : Begins
 no_commands alone name args at = NotMine
 
 refused : (plain : Plain) (again : Command → Doing End) (at : State)
@@ -226,8 +227,14 @@ steady_without_commands : Steady no_commands
 steady_without_commands = record { lasts = λ alone name args at. tt; follows = λ alone name args at. refl }
 
 -- builtins that do nothing
-abbrev idle : Plain
+abbrev pub idle : Plain
 idle = record { is_plain = λ name. false; acts = λ name args. pure 0; declares = λ declaration options args. pure 0 }
 
 idle_keeps : KeepPlain idle
 idle_keeps = record { acts = λ name args at. here at; declares = λ declaration options args at. here at }
+
+idle_closes : ClosePlain idle
+idle_closes = record { acts = λ name args at. refl; declares = λ declaration options args at. refl }
+
+host_closes : CloseHost no_commands
+host_closes alone name args at = tt

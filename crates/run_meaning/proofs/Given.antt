@@ -1,11 +1,10 @@
 -- Assignments leave the frames that are open.
-use Rattle.std.proofs.Common.{ℤ, List, Bool, true, false, Option, Some, None}
+use Rattle.std.proofs.Common.{ℤ, Bool, true, false, Option, Some, None}
 use Rattle.std.specs.Prelude.{[], ◌++◌, unwrap_or, Result, Ok, Err}
 use Rattle.eb_bytes.specs.Text.{Text}
-use Rattle.shell_vars.specs.Calls.{append, assign, bind, element, get, set, set_elem}
+use Rattle.shell_vars.specs.Calls.{bind, element, get, set, set_elem}
 use Rattle.shell_vars.specs.Store.{Store}
 use Rattle.shell_vars.specs.declared.error.VarErr.{VarErr}
-use Rattle.shell_vars.specs.declared.value.Value.{Value}
 use Rattle.shell_vars.specs.declared.value.Value.TheVariants as value
 use Rattle.run_meaning.specs.Values.{Assignment, Given, GivenText, GivenArray, after, array_given, bound, element_extended, given_to, made, value_given}
 use Rattle.word_meaning.proofs.Frames.{KeepsFrames, SameFrames, append_same, assign_same, bind_same, set_elem_same, set_same}

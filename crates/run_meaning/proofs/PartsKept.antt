@@ -1,12 +1,14 @@
 -- The parts that run no commands: what is respected holds of each of them.
-use Rattle.std.proofs.Common.{ℕ, zero, suc, ℤ, pos, negsuc, ◌-◌, min, List, [], ◌∷◌, ◌++◌, Option, Some, None, Bool, true, false, not, length, refl}
+use Rattle.std.proofs.Common.{ℕ, zero, suc, ℤ, pos, negsuc, ◌-◌, min, List, [], ◌∷◌, Option, Some, None, Bool, true, false, not, length, refl}
 use Rattle.std.specs.Prelude.{if◌then◌else◌, codes, is_some, Ok, Err, Result, nat_le, ◌==◌, ◌&&◌, ◌||◌, drop, take}
 use Rattle.std.specs.Str.{bytes_eq}
 use Rattle.byte_class.specs.Class.{is_name}
 use Rattle.eb_bytes.specs.Text.{Text}
 use Rattle.bash_cond.specs.Arithmetic.{evaluates}
 use Rattle.bash_cond.specs.Numbers.{numbers_stand}
-use Rattle.bash_cond.specs.Operators.{file_operator, is_before, stand, text_test}
+use Rattle.bash_cond.specs.Operators.{asks, file_operator, is_before, stand, text_test}
+use Rattle.bash_cond.specs.Patterns.{decided, matched}
+use Rattle.bash_cond.specs.Tests.{asked, binary as between}
 use Rattle.bash_cond.specs.Verdict.{Verdict, told}
 use Rattle.bash_cond.specs.Words.{truth}
 use Rattle.bash_cond.specs.declared.operator.Question.{Question}
@@ -18,6 +20,7 @@ use Rattle.bash_patterns.specs.Matching.{matches}
 use Rattle.bash_patterns.specs.Reading.{pattern_of}
 use Rattle.eb_grammar.specs.Grammar.{whole_ref}
 use Rattle.eb_syntax.specs.Tree.{Ref}
+use Rattle.eb_syntax.specs.declared.parts.BinOp.{BinOp}
 use Rattle.eb_syntax.specs.declared.parts.RefOf.TheVariants as ref
 use Rattle.shell_functions.specs.Funcs.{without}
 use Rattle.shell_vars.specs.Calls.{assign, element, get, unset, unset_elem}
@@ -33,10 +36,11 @@ use Rattle.shell_state.specs.declared.fault.Fault.TheVariants as fault
 use Rattle.run_meaning.specs.Assignments.{changes}
 use Rattle.run_meaning.specs.Builtins.{Unsets, as_status, bad_use, before_bracket, builtin, ends_options, is_dash_option, is_named, is_option, jumps, jumps_by, last_word, lets, lets_after, no_options, number_or, return_to, returns, sets, sets_letter, sets_letters, sets_option, shift, shifted, subscript_of, tests, tests_bracketed, unset_by, unset_either, unset_from, unset_function, unset_letters, unset_name, unset_parts, unset_variable, unset_word, unset_words, with_args, with_funcs, with_noglob}
 use Rattle.run_meaning.specs.Cases.{matches_case}
-use Rattle.run_meaning.specs.Conditions.{bracketed, compared, has_argument, has_at, has_element, has_elements, has_special, is_set, is_there, matched, matches_pattern, unary, unless_made_up}
+use Rattle.run_meaning.specs.Conditions.{bracketed, has_argument, has_at, has_element, has_elements, has_special, is_set, is_there, unary, unless_made_up}
 use Rattle.run_meaning.specs.Ends.{End, Goes, Breaks, Continues, Returns, status, with_status, truth_status, inverse, left_loop, turned, going}
 use Rattle.run_meaning.specs.Lists.{inverted, unless_refused}
 use Rattle.run_meaning.specs.Loops.{for_turns, next_turn}
+use Rattle.shell_marks.specs.Marks.{unquoted}
 use Rattle.shell_marks.specs.declared.marked.Mark.{Mark}
 use Rattle.word_meaning.proofs.Frames.{KeepsFrames, assign_same, unset_elem_same, unset_same}
 use Rattle.word_meaning.proofs.Respected.{KeepsOpen, Respected}
@@ -133,15 +137,15 @@ module _ (R : (A : Type 0) → Doing A → Doing A → Type 0) (respected : Resp
   told_part (Ok b) = done b
   told_part (Err why) = no why
 
-  matched_part : (form : Option Form) (ms : List Mark) (t : Text) → Self (matched form ms t)
-  matched_part None ms t = no fault.PatternDeep
-  matched_part (Some form) ms t = next _ _ _ _ (spends (match_cost (length t) (length ms))) (done (matches form t))
+  decided_part : (form : Option Form) (marks : ℕ) (t : Text) → Self (decided form marks t)
+  decided_part None marks t = no fault.PatternDeep
+  decided_part (Some form) marks t = next _ _ _ _ (spends (match_cost (length t) marks)) (done (matches form t))
 
-  pub matches_part : (extended : Bool) (ms : List Mark) (t : Text) → Self (matches_pattern extended ms t)
-  matches_part extended ms t = matched_part (pattern_of extended ms) ms t
+  matched_part : (extended : Bool) (ms : List Mark) (t : Text) → Self (matched extended ms t)
+  matched_part extended ms t = decided_part (pattern_of extended ms) (length ms) t
 
   pub matches_case_part : (t : Text) (ms : List Mark) → Self (matches_case t ms)
-  matches_case_part t ms = by_state _ _ (λ at. matches_part at.opts.extglob ms t)
+  matches_case_part t ms = by_state _ _ (λ at. matched_part at.opts.extglob ms t)
 
   there_part : (name : Text) (r : Result (Option Text) VarErr) → Self (is_there name r)
   there_part name (Ok found) = done (is_some found)
@@ -182,13 +186,16 @@ module _ (R : (A : Type 0) → Doing A → Doing A → Type 0) (respected : Resp
   numbers_part : (relation : Relation) (t u : Text) → Self (numbers_stand relation t u)
   numbers_part relation t u = bind _ _ _ _ (evaluates_part t) (λ a. bind _ _ _ _ (evaluates_part u) (λ b. done (stand relation a b)))
 
-  pub compared_part : (q : Question) (t u : Text) → Self (compared q t u)
-  compared_part Before t u = done (is_before t u)
-  compared_part After t u = done (is_before u t)
-  compared_part (Numbers relation) t u = numbers_part relation t u
-  compared_part (Files relation) t u = no (fault.FileTest (file_operator relation))
-  compared_part Same t u = done (bytes_eq t u)
-  compared_part Different t u = done (not (bytes_eq t u))
+  asked_part : (q : Question) (t : Text) (ms : List Mark) → Self (asked q t ms)
+  asked_part Same t ms = matched_part true ms t
+  asked_part Different t ms = image _ _ not (matched_part true ms t)
+  asked_part Before t ms = done (is_before t (unquoted ms))
+  asked_part After t ms = done (is_before (unquoted ms) t)
+  asked_part (Numbers relation) t ms = numbers_part relation t (unquoted ms)
+  asked_part (Files relation) t ms = no (fault.FileTest (file_operator relation))
+
+  pub between_part : (op : BinOp) (t : Text) (ms : List Mark) → Self (between op t ms)
+  between_part op t ms = asked_part (asks op) t ms
 
   -- ---- builtins
 

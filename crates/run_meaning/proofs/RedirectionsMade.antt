@@ -1,8 +1,7 @@
 -- What a redirection leaves open: all but the outputs, and the input where it takes none.
-use Rattle.std.proofs.Common.{◌≡◌, ℕ, List, [], ◌∷◌, ◌++◌, Option, Some, None, Bool, true, false, length, refl, sym, ap, subst, ◌∙◌}
-use Rattle.std.specs.Prelude.{◌==◌, codes, if◌then◌else◌}
-use Rattle.std.specs.Str.{bytes_eq}
-use Rattle.bash_calls.specs.Redirections.{both_written_to, by_file, by_word, copied_to, copied_to_numbered, descriptor, file_takes_input, is_input, is_null, made, output_named, read_from, reading, retargeted, takes_input, word_takes_input, written_to}
+use Rattle.std.proofs.Common.{◌≡◌, ℕ, [], ◌∷◌, ◌++◌, Option, Some, None, Bool, true, false, length, refl, ap, subst}
+use Rattle.std.specs.Prelude.{◌==◌, if◌then◌else◌}
+use Rattle.bash_calls.specs.Redirections.{by_file, by_word, copied_to, copied_to_numbered, descriptor, file_takes_input, is_input, is_null, made, output_named, read_from, reading, retargeted, takes_input, word_takes_input, written_to}
 use Rattle.eb_bytes.specs.Text.{Text}
 use Rattle.eb_syntax.specs.declared.parts.FileOp.{FileOp}
 use Rattle.eb_syntax.specs.declared.parts.FileOp.TheVariants as file

@@ -1,5 +1,6 @@
 -- Small scripts, whose commands are such that how each ends is known.
 use Rattle.std.proofs.Common.{◌≡◌, ℕ, ◌+◌, List, [], ◌∷◌, None, true, false, refl, codes}
+use Rattle.eb_bytes.specs.Text.{Text}
 use Rattle.eb_grammar.specs.Grammar.{Node, Refused as Unread}
 use Rattle.eb_syntax.specs.Tree.{Coproc, FuncDef, Item, Joined, Pipe}
 use Rattle.eb_syntax.specs.declared.parts.Bar.TheVariants as bar
@@ -12,19 +13,20 @@ use Rattle.eb_syntax.specs.declared.parts.PipeMark.TheVariants as mark
 use Rattle.eb_syntax.specs.declared.tree.AP.TheOpen.{Command-F, Compound-F}
 use Rattle.eb_syntax.specs.declared.tree.Command.{Command, out-Command}
 use Rattle.eb_syntax.specs.declared.tree.Items.{Items, out-Items}
-use Rattle.shell_state.specs.Host.{Begins}
+use Rattle.shell_state.specs.Host.{Begins, Finished}
 use Rattle.shell_state.specs.Opening.{opens}
 use Rattle.shell_state.specs.Spending.{spend}
 use Rattle.shell_state.specs.State.{State}
 use Rattle.shell_state.specs.Outcome.{Doing, Ended, Faulted}
 use Rattle.shell_state.specs.declared.fault.Fault.TheVariants as fault
+use Rattle.shell_state.specs.declared.io.Target.TheVariants.{Drop}
 use Rattle.run_meaning.specs.Builtins.{Plain}
 use Rattle.run_meaning.specs.Compounds.{compound_at}
 use Rattle.run_meaning.specs.Ends.{End, Goes, Breaks, Returns, with_status}
 use Rattle.run_meaning.specs.Lists.{all_items, items}
 use Rattle.run_meaning.specs.Loops.{while_turns}
-use Rattle.run_meaning.specs.Run.{defining, run}
-use Rattle.run_meaning.specs.Simple.{evaluated}
+use Rattle.run_meaning.specs.Run.{defining, run, whole}
+use Rattle.run_meaning.specs.Simple.{evaluated, hosted, source}
 use Rattle.run_meaning.specs.Subshells.{apart, subshell}
 
 -- each command ends with this status, and counts itself where the loops are counted
@@ -93,6 +95,13 @@ not_reached c d at = refl
 
 -- ---- compound commands
 
+-- each command leaves so many loops, or ends the call or the script
+abbrev leaves : ℕ → Command → Doing End
+leaves n c = λ s. Ended (Breaks n) s
+
+abbrev jumps : Command → Doing End
+jumps c = λ s. Ended Returns s
+
 -- nothing is open, nothing is captured, and so many steps are left
 abbrev fresh : ℕ → State → State
 fresh left at = record at { opened = []; left = left; io = record at.io { captures = [] } }
@@ -108,6 +117,45 @@ if_without_branch : (c : Command) (i body : Items) → (out-Items i).items ≡ i
     → compound_at (counts 1) 9 (Compound-F.If i body [] None) (fresh 9 (ran 0 0 at)) ≡ Ended Goes (fresh 9 (ran 0 1 at))
 unfolding items opens
 if_without_branch c i body e at = rw e refl
+
+-- `{ false; }`
+in_braces : (c : Command) (i : Items) → (out-Items i).items ≡ item (alone [] c) [] end.Semicolon ∷ [] → (at : State)
+    → compound_at (counts 1) 9 (Compound-F.Compound::Group i) (fresh 9 (ran 0 0 at)) ≡ Ended Goes (fresh 9 (ran 1 1 at))
+unfolding items opens
+in_braces c i e at = rw e refl
+
+-- `{ return; }`, `( return )`: the jump passes the braces, and ends the subshell alone
+out_of_braces : (c : Command) (i : Items) → (out-Items i).items ≡ item (alone [] c) [] end.Semicolon ∷ [] → (at : State)
+    → compound_at jumps 9 (Compound-F.Compound::Group i) (fresh 9 (ran 3 0 at)) ≡ Ended Returns (fresh 9 (ran 3 0 at))
+unfolding items opens
+out_of_braces c i e at = rw e refl
+
+out_of_subshell : (c : Command) (i : Items) → (out-Items i).items ≡ item (alone [] c) [] end.Semicolon ∷ [] → (at : State)
+    → subshell jumps i (fresh 9 (ran 3 0 at)) ≡ Ended Goes (fresh 9 (ran 3 0 at))
+unfolding subshell apart items opens
+out_of_subshell c i e at = rw e refl
+
+-- `while break; do ..; done`, `until true; do ..; done`: no turn
+test_leaves : (c : Command) (test body : Items) → (out-Items test).items ≡ item (alone [] c) [] end.Semicolon ∷ [] → (at : State)
+    → compound_at (leaves 1) 9 (Compound-F.While test body) (fresh 9 (ran 0 0 at)) ≡ Ended Goes (fresh 9 (ran 0 0 at))
+unfolding items opens
+test_leaves c test body e at = rw e refl
+
+until_ends : (c : Command) (test body : Items) → (out-Items test).items ≡ item (alone [] c) [] end.Semicolon ∷ [] → (at : State)
+    → compound_at (counts 0) 9 (Compound-F.Until test body) (fresh 9 (ran 1 0 at)) ≡ Ended Goes (fresh 9 (ran 0 0 at))
+unfolding items opens
+until_ends c test body e at = rw e refl
+
+-- `for ((;;)) do break; done`, `for ((;;)) do break 2; done`: one turn, for which a step is spent
+for_leaves : (c : Command) (body : Items) → (out-Items body).items ≡ item (alone [] c) [] end.Semicolon ∷ [] → (at : State)
+    → compound_at (leaves 1) 9 (Compound-F.ForArith [] [] [] body) (fresh 9 (ran 0 0 at)) ≡ Ended Goes (fresh 8 (ran 0 0 at))
+unfolding items opens spend
+for_leaves c body e at = rw e refl
+
+for_leaves_two : (c : Command) (body : Items) → (out-Items body).items ≡ item (alone [] c) [] end.Semicolon ∷ [] → (at : State)
+    → compound_at (leaves 2) 9 (Compound-F.ForArith [] [] [] body) (fresh 9 (ran 0 1 at)) ≡ Ended (Breaks 1) (fresh 8 (ran 0 1 at))
+unfolding items opens spend
+for_leaves_two c body e at = rw e refl
 
 -- `while true; do true; done`: each turn spends a step, until none is left
 endless : (c d : Command) (at : State)
@@ -153,3 +201,30 @@ eval_nothing : (plain : Plain) (b : Begins) (i : Items) → (out-Items i).items 
     → evaluated plain b (counts 1) [] (Node i) (fresh 9 (ran 1 0 at)) ≡ Ended Goes (fresh 8 (ran 0 0 at))
 unfolding items opens spend
 eval_nothing plain b i e at = rw e refl
+
+-- `eval return`: the jump passes it
+eval_returns : (plain : Plain) (b : Begins) (c : Command) (i : Items) → (out-Items i).items ≡ item (alone [] c) [] end.Semicolon ∷ [] → (at : State)
+    → evaluated plain b jumps (codes "return") (Node i) (fresh 9 (ran 3 0 at)) ≡ Ended Returns (fresh 8 (ran 3 0 at))
+unfolding items opens spend
+eval_returns plain b c i e at = rw e refl
+
+-- ---- scripts
+
+-- a script of the host of 64 bytes that returns, in two loops: it begins with the status 0, and costs two steps
+script_returns : (plain : Plain) (b : Begins) (c : Command) (i : Items) → (out-Items i).items ≡ item (alone [] c) [] end.Semicolon ∷ [] → (at : State)
+    → source plain b jumps i 64 (fresh 9 (ran 3 2 at)) ≡ Ended tt (fresh 7 (ran 0 2 at))
+unfolding source items opens spend
+script_returns plain b c i e at = rw e refl
+
+-- an empty script of 128 bytes by itself
+empty_script : (plain : Plain) (b : Begins) (i : Items) → (out-Items i).items ≡ [] → (at : State)
+    → whole plain b 9 128 i (fresh 9 (ran 3 0 at)) ≡ Ended tt (fresh 6 (ran 0 0 at))
+unfolding whole items spend
+empty_script plain b i e at = rw e refl
+
+-- a command of the host that prints, where the output is kept nowhere
+prints_nowhere : (runs : Items → ℕ → Doing (Unit {0})) (name : Text) (at : State)
+    → hosted runs name (fresh 9 at) (Finished 3 (codes "a") (record (fresh 9 at) { io = record (fresh 9 at).io { out = Drop } }))
+    ≡ Ended 3 (record (fresh 9 at) { io = record (fresh 9 at).io { out = Drop } })
+unfolding spend
+prints_nowhere runs name at = refl

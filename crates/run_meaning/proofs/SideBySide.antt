@@ -9,9 +9,9 @@ use Rattle.eb_syntax.specs.declared.tree.Redir.{Redir, out-Redir}
 use Rattle.shell_state.specs.Host.{Begins, Begun, Finished, Sourced, Refused, NotMine, Lasts, Later}
 use Rattle.shell_state.specs.Opening.{bringing_back}
 use Rattle.shell_state.specs.Output.{may_put, prints, put, puts}
-use Rattle.shell_state.specs.Spending.{script_cost, spend, text_cost}
+use Rattle.shell_state.specs.Spending.{script_cost, text_cost}
 use Rattle.shell_state.specs.State.{State}
-use Rattle.shell_state.specs.Outcome.{Outcome, Ended, Faulted, Doing, ◌>>=◌, ◌>>◌, and_then, change, pure, refuse, left_of, asked_of}
+use Rattle.shell_state.specs.Outcome.{Outcome, Ended, Faulted, Doing, ◌>>◌, and_then, change, pure, refuse, left_of, asked_of}
 use Rattle.shell_state.specs.declared.fault.Fault.TheVariants as fault
 use Rattle.shell_state.specs.declared.io.Io.{Io}
 use Rattle.shell_state.specs.declared.io.Target.{Target}

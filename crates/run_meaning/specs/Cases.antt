@@ -1,5 +1,6 @@
 -- `case` ("Conditional Constructs").
 use Rattle.std.specs.Prelude.{ℕ, Bool, true, false, List, [], ◌∷◌, if◌then◌else◌}
+use Rattle.bash_cond.specs.Patterns.{matched}
 use Rattle.eb_bytes.specs.Text.{Text}
 use Rattle.eb_syntax.specs.declared.parts.ClauseEnd.{ClauseEnd}
 use Rattle.eb_syntax.specs.declared.parts.ClauseEnd.TheVariants as end
@@ -7,7 +8,6 @@ use Rattle.eb_syntax.specs.declared.tree.Clause.{Clause, out-Clause}
 use Rattle.eb_syntax.specs.declared.tree.Command.{Command}
 use Rattle.eb_syntax.specs.declared.tree.Word.{Word}
 use Rattle.shell_state.specs.Outcome.{Doing, ◌>>=◌, pure}
-use Rattle.run_meaning.specs.Conditions.{matches_pattern}
 use Rattle.run_meaning.specs.Ends.{End, Goes, status, going}
 use Rattle.run_meaning.specs.Lists.{items}
 use Rattle.run_meaning.specs.Subshells.{substitution}
@@ -16,7 +16,7 @@ use Rattle.word_meaning.specs.Texts.{pattern}
 
 -- whether a pattern matches; extended groups are read where the shell has them
 abbrev pub matches_case : Text → List Mark → Doing Bool
-matches_case t ms = λ at. matches_pattern at.opts.extglob ms t at
+matches_case t ms = λ at. matched at.opts.extglob ms t at
 
 -- after the commands of a clause: ";;&" tries the others, ";&" runs the next one too
 abbrev pub after_clause : ClauseEnd → (tries runs : Doing End) → Doing End

@@ -5,17 +5,12 @@ use Rattle.std.specs.Str.{bytes_eq}
 use Rattle.std.specs.Str.Parse.{digits_value}
 use Rattle.eb_bytes.specs.Text.{Text, has_bytes}
 use Rattle.bash_cond.specs.Arithmetic.{evaluates}
-use Rattle.bash_cond.specs.Numbers.{numbers_stand}
-use Rattle.bash_cond.specs.Operators.{asks, file_operator, is_before, text_test}
+use Rattle.bash_cond.specs.Operators.{text_test}
+use Rattle.bash_cond.specs.Tests.{binary as between}
 use Rattle.bash_cond.specs.Verdict.{told}
-use Rattle.bash_cond.specs.declared.operator.Question.{Question}
-use Rattle.bash_cond.specs.declared.operator.Question.TheVariants.{Same, Different, Before, After, Numbers, Files}
-use Rattle.bash_params.specs.Cost.{match_cost}
-use Rattle.bash_patterns.specs.Form.{Form}
-use Rattle.bash_patterns.specs.Matching.{matches}
-use Rattle.bash_patterns.specs.Reading.{pattern_of}
 use Rattle.eb_grammar.specs.Grammar.{whole_ref}
 use Rattle.eb_syntax.specs.Tree.{And, Or, Ref}
+use Rattle.eb_syntax.specs.declared.parts.BinOp.{BinOp}
 use Rattle.eb_syntax.specs.declared.parts.RefOf.TheVariants as ref
 use Rattle.eb_syntax.specs.declared.tree.AP.TheOpen.{Not-F, Primary-F}
 use Rattle.eb_syntax.specs.declared.tree.Items.{Items}
@@ -27,23 +22,11 @@ use Rattle.shell_vars.specs.Refused.{is_refused}
 use Rattle.shell_vars.specs.Value.{elements_of}
 use Rattle.shell_vars.specs.declared.error.VarErr.{VarErr}
 use Rattle.shell_state.specs.Faults.{variable_fault}
-use Rattle.shell_state.specs.Outcome.{Doing, ◌>>=◌, ◌>>◌, ◌<$>◌, pure, refuse}
-use Rattle.shell_state.specs.Spending.{spend}
+use Rattle.shell_state.specs.Outcome.{Doing, ◌>>=◌, ◌<$>◌, pure, refuse}
 use Rattle.shell_state.specs.declared.fault.Fault.TheVariants as fault
 use Rattle.run_meaning.specs.Builtins.{after_bracket}
 use Rattle.run_meaning.specs.Layers.{NotLayer, PrimaryLayer}
-use Rattle.shell_marks.specs.declared.marked.Mark.{Mark}
 use Rattle.word_meaning.specs.Texts.{pattern, text}
-
--- ---- patterns
-
-abbrev pub matched : Option Form → List Mark → Text → Doing Bool
-matched None ms t = refuse fault.PatternDeep
-matched (Some form) ms t = spend (match_cost (length t) (length ms)) >> pure (matches form t)
-
--- whether a pattern matches a text; a pattern that is nested too deeply is at fault before the match is paid
-abbrev pub matches_pattern : (extended : Bool) → List Mark → Text → Doing Bool
-matches_pattern extended ms t = matched (pattern_of extended ms) ms t
 
 -- ---- `-v`
 
@@ -96,24 +79,10 @@ is_set operand (Some (ref.Special b)) = has_special b
 abbrev pub unary : (letter : ℕ) → Text → Doing Bool
 unary letter t = if letter == 118 then is_set t (whole_ref t) else told (text_test letter t)
 
--- two operands that are both texts
-abbrev pub compared : Question → Text → Text → Doing Bool
-compared Before t u = pure (is_before t u)
-compared After t u = pure (is_before u t)
-compared (Numbers relation) t u = numbers_stand relation t u
-compared (Files relation) t u = refuse (fault.FileTest (file_operator relation))
-compared Same t u = pure (bytes_eq t u)
-compared Different t u = pure (not (bytes_eq t u))
-
 module _ (sub : Items → Doing Text) where
-  -- the left operand is expanded first; after `=`, `==` and `!=` the right one is a pattern, in which groups are read
-  abbrev pub binary : Question → Word → Word → Doing Bool
-  binary Same a b = text sub a >>= (λ t. pattern sub b >>= (λ ms. matches_pattern true ms t))
-  binary Different a b = not <$> (text sub a >>= (λ t. pattern sub b >>= (λ ms. matches_pattern true ms t)))
-  binary Before a b = text sub a >>= (λ t. text sub b >>= compared Before t)
-  binary After a b = text sub a >>= (λ t. text sub b >>= compared After t)
-  binary (Numbers relation) a b = text sub a >>= (λ t. text sub b >>= compared (Numbers relation) t)
-  binary (Files relation) a b = text sub a >>= (λ t. text sub b >>= compared (Files relation) t)
+  -- both operands are expanded before the operator is asked, the left one first
+  abbrev pub binary : BinOp → Word → Word → Doing Bool
+  binary op a b = text sub a >>= (λ t. pattern sub b >>= (λ marks. between op t marks))
 
   module _ (truth : Not → Doing Bool) where
     abbrev pub all : List Not → Doing Bool
@@ -138,7 +107,7 @@ module _ (sub : Items → Doing Text) where
     primary_at (Primary-F.Unary letter w) = text sub w >>= unary letter
     primary_at (Primary-F.Primary::Word w) = text sub w >>= (λ t. pure (has_bytes t))
     primary_at (Primary-F.Matches w r) = refuse fault.RegexRefused
-    primary_at (Primary-F.Binary a op b) = binary (asks op) a b
+    primary_at (Primary-F.Binary a op b) = binary op a b
 
     abbrev pub not_at : NotLayer → Doing Bool
     not_at (Not-F.Not n) = not <$> truth n
