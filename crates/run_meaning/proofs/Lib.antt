@@ -1,3 +1,4 @@
+mod Assumed
 pub mod BroughtBack
 mod Built
 mod Closed
