@@ -7,6 +7,7 @@ use probe_packages::{
 use probe_patterns::{Search, find, operate, parameters, slice, split, substring};
 use probe_trees::{ansi, ansi_expanded, braces, fault, funcs, share};
 use probe_variables::{arith, read, vars};
+use probe_words::word;
 use std::alloc::Global;
 
 /// The answer to a line.
@@ -71,6 +72,7 @@ fn answer_texts(request: &[u8], texts: &[Bytes], answer: &mut Answer) -> Result<
 fn answer_text(request: &[u8], text: &[u8], answer: &mut Answer) -> Result<(), Fault> {
     match request {
         b"words" => words(text, answer),
+        b"word" => word(text, answer),
         b"unsigned" => unsigned(text, answer),
         b"signed" => signed(text, answer),
         b"digest" => digest(text, answer),
