@@ -1,0 +1,7 @@
+pub mod Bodies
+pub mod DelimiterParts
+pub mod Enclosed
+pub mod HereRedirs
+pub mod HereTexts
+pub mod MarkPieces
+pub mod Redirs

@@ -1,0 +1,10 @@
+use Rattle.std.proofs.Common.{◌≡◌, ◌-◌}
+use Rattle.bash_redirs.specs.At.{unquoted_at}
+use Rattle.eb_grammar.specs.Peg.{single, ◌<$>◌, many, gather_from}
+use Rattle.bash_cursor.specs.Reads.{StaysOn, KeepsMarks}
+use Rattle.bash_redirs.proofs.delimiters.more_pieces.Given as goal
+
+abbrev pub invariant-loop-turn : goal.invariant-loop-turn
+invariant-loop-turn g l =
+    (many (unquoted_at l.fn.c.room) l.fn.c.spot ≡ gather_from (single <$> unquoted_at l.fn.c.room) (l._turn-end - l._turn) l.found l.c.spot)
+    × (StaysOn l.fn.c l.c × KeepsMarks l.fn.c l.c)

@@ -1,0 +1,4 @@
+pub mod At
+pub mod Delimiters
+pub mod Marks
+pub mod Parts
