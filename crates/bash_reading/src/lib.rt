@@ -1,5 +1,5 @@
 //! What the readers of commands have in common: the forms in which a reader goes back after an error, lists of what was
-//! read, and blanks. The clauses of readers that are handed over at here-documents are in specs/Marks.antt.
+//! read, blanks and reserved words. The clauses of readers that are handed over at here-documents are in specs/Marks.antt.
 #![tactic(auto)]
 
 /// What was read, `None` where there is no reading. Any other error is handed on: nothing may have been taken before.
@@ -135,6 +135,8 @@ macro_rules! repeat_marks {
 
 mod blanks;
 mod lists;
+mod words;
 
 pub use blanks::{sees_blank, some_blanks};
 pub use lists::{boxed, list_with, put, shared};
+pub use words::{may_eat, reserved_word};
