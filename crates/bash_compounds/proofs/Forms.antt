@@ -95,7 +95,7 @@ module _ (r : Rules) where
   pub forms_are : (s : Spot) → compound_forms r s ≡ (groups r </> if_command r </> loops r </> choices r) s
   unfolding compound_forms groups loops choices
   forms_are s =
-      first_three (braces r) (arith_command r) (subshell r) (subshell r) (subshell r) rest s
+      first_three (braces r) (arith_command r) (subshell r) rest s
       ∙ or_other _ rest _ s (or_other (if_command r) _ _ s
       (first_five (while_loop r) (until_loop r) (arith_for r) (for_loop r) (select_loop r) (case_command r </> test_command r) s))
     where

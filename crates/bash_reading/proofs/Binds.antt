@@ -39,15 +39,14 @@ module _ {A : Type 0} (p q r : Rule A) (s : Spot) where
   pub or_other : q s ≡ r s → (p </> q) s ≡ (p </> r) s
   or_other same = or_same q r s same (p s)
 
-module _ {A : Type 0} (a b c d e r : Rule A) (s : Spot) where
+module _ {A : Type 0} (a b c r : Rule A) (s : Spot) where
   pub first_three : (a </> (b </> (c </> r))) s ≡ ((a </> (b </> c)) </> r) s
   first_three = or_other a (b </> (c </> r)) ((b </> c) </> r) s (first_two b c r s) ∙ first_two a (b </> c) r s
 
-  last_four : (b </> (c </> (d </> (e </> r)))) s ≡ ((b </> (c </> (d </> e))) </> r) s
-  last_four =
-      or_other b (c </> (d </> (e </> r))) ((c </> (d </> e)) </> r) s
-      (or_other c (d </> (e </> r)) ((d </> e) </> r) s (first_two d e r s) ∙ first_two c (d </> e) r s)
-      ∙ first_two b (c </> (d </> e)) r s
+module _ {A : Type 0} (a b c d r : Rule A) (s : Spot) where
+  first_four : (a </> (b </> (c </> (d </> r)))) s ≡ ((a </> (b </> (c </> d))) </> r) s
+  first_four = or_other a (b </> (c </> (d </> r))) ((b </> (c </> d)) </> r) s (first_three b c d r s) ∙ first_two a (b </> (c </> d)) r s
 
+module _ {A : Type 0} (a b c d e r : Rule A) (s : Spot) where
   pub first_five : (a </> (b </> (c </> (d </> (e </> r))))) s ≡ ((a </> (b </> (c </> (d </> e)))) </> r) s
-  first_five = or_other a (b </> (c </> (d </> (e </> r)))) ((b </> (c </> (d </> e))) </> r) s last_four ∙ first_two a (b </> (c </> (d </> e))) r s
+  first_five = or_other a (b </> (c </> (d </> (e </> r)))) ((b </> (c </> (d </> e))) </> r) s (first_four b c d e r s) ∙ first_two a (b </> (c </> (d </> e))) r s

@@ -1,0 +1,4 @@
+pub mod Functions
+mod PrefixTakes
+pub mod Prefixes
+pub mod Repetition
