@@ -53,9 +53,9 @@ fn sees_subscript(c: &mut Cursor<'_>) -> bool
     ensures same { c.new ≡ c.old }
 {
     let start = c.here();
-    if c.byte(Class::NameStart).is_none() {
+    let Some(_) = c.byte(Class::NameStart) else {
         return false;
-    }
+    };
     c.run(Class::NamePart);
     let stands = c.sees(b"[");
     c.back_to(start);
