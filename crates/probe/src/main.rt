@@ -52,6 +52,9 @@
 //! | `unary LETTER TEXT` | the same of `[[ -LETTER TEXT ]]`, but for `-v` |
 //! | `binary OP TEXT MARKS [steps LIMIT] [NAME=TEXT]..` | the same of `[[ TEXT OP MARKS ]]`, then `steps N` |
 //! | `arith TEXT [steps LIMIT] [GIVEN]..` | `ok N` or the fault, `steps N`, then each variable given or set |
+//! | `echo [steps LIMIT] [WORD]..` | `ok`, the status and what is printed, or `fault` and its text; then `steps N` |
+//! | `printf [steps LIMIT] [WORD].. [set GIVEN..]` | the same, then each variable given, or named in the first four words |
+//! | `reads INPUT IFS [WORD].. [set GIVEN..]` | `ok`, the status, what `read` prints, `took N` bytes of the input, variables |
 //! | `read LEVELS TEXT` | `ok` and the number of an expression's instructions, or the refusal's name |
 //!
 //! A line that is no request answers `what`. `GIVEN` is `NAME=TEXT`, `NAME[SUBSCRIPT]=TEXT`, or `!NAME` where the name

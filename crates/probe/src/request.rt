@@ -1,5 +1,6 @@
 use eb_bytes::Bytes;
 use probe_base::{Answer, Fault, Style, parts, read_texts};
+use probe_builtins::{echo, printf, reads};
 use probe_conditions::{binary, truth, unary};
 use probe_packages::{
     cut, digest, eapi, entry, form, key, make, names, paths, phase, phases, read_digest, rs,
@@ -50,6 +51,9 @@ fn answer_fields(request: &[u8], fields: &[&[u8]], answer: &mut Answer) -> Resul
         b"truth" => truth(fields, answer),
         b"unary" => unary(fields, answer),
         b"binary" => binary(fields, answer),
+        b"echo" => echo(fields, answer),
+        b"printf" => printf(fields, answer),
+        b"reads" => reads(fields, answer),
         b"read" => read(fields, answer),
         request => {
             let texts = read_texts(answer.alloc(), fields)?;
