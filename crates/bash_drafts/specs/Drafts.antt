@@ -1,14 +1,8 @@
 -- The commands that drafts are.
 use Rattle.eb_syntax.specs.declared.tree.Command.{Command}
 use Rattle.eb_syntax.specs.declared.tree.Command.TheVariants as c
-use Rattle.bash_drafts.specs.declared.draft.InnerKind.{InnerKind}
-use Rattle.bash_drafts.specs.declared.draft.InnerKind.TheVariants as i
 use Rattle.bash_drafts.specs.declared.draft.DraftKind.{DraftKind}
 use Rattle.bash_drafts.specs.declared.draft.DraftKind.TheVariants as d
-
-abbrev pub inner_command : InnerKind → Command
-inner_command (i.Compound what redirs) = c.Compound what redirs
-inner_command (i.Simple simple) = c.Simple simple
 
 abbrev pub draft_command : DraftKind → Command
 draft_command (d.Inner inner) = inner

@@ -5,8 +5,10 @@
 mod bodies;
 mod commands;
 mod draft;
+mod inner;
 mod lists;
 mod redirections;
 
 pub use commands::filled_items;
-pub use draft::{AndOrDraft, Draft, Inner, ItemDraft, JoinedDraft, PipeDraft, PipedDraft};
+pub use draft::{AndOrDraft, Draft, ItemDraft, JoinedDraft, PipeDraft, PipedDraft};
+pub use inner::Inner;
