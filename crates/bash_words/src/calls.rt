@@ -174,7 +174,7 @@ fn arith_part_over<
     ensures { Reads (arith_part_at c.old.room) c.old result c.new }
 {
     let inner = |quoted: bool, c: &mut Cursor<'_>| -> Result<ArithText, LexErr>
-        requires dollars { ReadsBelow (dollar_at false) (c.old.room + 1) (D.pre dollar.now false) (D.post dollar.now false) }
+        requires dollars { ReadsBelow (dollar_at quoted) (c.old.room + 1) (D.pre dollar.now quoted) (D.post dollar.now quoted) }
         requires backs { ReadsBelow back_at (c.old.room + 1) (B.pre back.now) (B.post back.now) }
         ensures { Reads (arith_at quoted c.old.room) c.old result c.new }
     { arith_over(quoted, c, dollar, back) };
