@@ -44,7 +44,8 @@
 //! | `parameters FROM LEN ZERO [TEXT]..` | the same of these parameters, the first with the number 0 |
 //! | `vars CALL..` | what the calls answer, as the head of `data/variables.rows` says |
 //! | `funcs CALL..` | what the calls answer, as the head of `data/functions.rows` says |
-//! | `braces TEXT` | `ok` and the text of each word that the text's braces give, or `many` |
+//! | `braces TEXT` | `ok` and the text of each word that the text's braces give, `many`, or `no` where it is no word |
+//! | `brace_count TEXT` | `ok` and how many words the text's braces give, or the same |
 //! | `ansi TEXT`; `ansi_value TEXT` | what `$'..'` around the text stands for; `ok` and that, or `Quoting` |
 //! | `fault NAME [FIELD]..` | the text of the fault of a script; a text or a number in decimal for each field |
 //! | `word TEXT` | `place N`, where a word at the text's start ends; `no`, `deep LINE`, or `commands` where some stand in it |

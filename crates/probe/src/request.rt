@@ -1,12 +1,13 @@
 use eb_bytes::Bytes;
 use probe_base::{Answer, Fault, Style, parts, read_texts};
+use probe_braces::{brace_count, braces};
 use probe_conditions::{binary, truth, unary};
 use probe_packages::{
     cut, digest, eapi, entry, form, key, make, names, paths, phase, phases, read_digest, rs,
     signed, test, unquoted, unsigned, version, words,
 };
 use probe_patterns::{Search, find, operate, parameters, slice, split, substring};
-use probe_trees::{ansi, ansi_expanded, braces, fault, funcs, share};
+use probe_trees::{ansi, ansi_expanded, fault, funcs, share};
 use probe_variables::{arith, read, vars};
 use probe_words::word;
 use std::alloc::Global;
@@ -85,6 +86,7 @@ fn answer_text(request: &[u8], text: &[u8], answer: &mut Answer) -> Result<(), F
         b"phases" => phases(text, answer),
         b"entry" => entry(text, answer),
         b"braces" => braces(text, answer),
+        b"brace_count" => brace_count(text, answer),
         b"ansi" => ansi(text, answer),
         b"ansi_value" => ansi_expanded(text, answer),
         request => form(request, text, answer),

@@ -1,14 +1,12 @@
-//! Requests on what is read of a script: braces, quoting, trees and functions; and on the faults of one. No part of the
+//! Requests on what is read of a script: quoting, trees and functions; and on the faults of one. No part of the
 //! product.
 #![tactic(auto)]
 
-mod brace_words;
 mod faults;
 mod functions;
 mod quoting;
 mod trees;
 
-pub use brace_words::braces;
 pub use faults::fault;
 pub use functions::funcs;
 pub use quoting::{ansi, ansi_expanded};
