@@ -7,6 +7,7 @@ use probe_packages::{
     signed, test, unquoted, unsigned, version, words,
 };
 use probe_patterns::{Search, find, operate, parameters, slice, split, substring};
+use probe_redirs::{assign, documents, mark, redir, regex};
 use probe_trees::{ansi, ansi_expanded, fault, funcs, share};
 use probe_variables::{arith, read, vars};
 use probe_words::word;
@@ -78,6 +79,11 @@ fn answer_text(request: &[u8], text: &[u8], answer: &mut Answer) -> Result<(), F
     match request {
         b"words" => words(text, answer),
         b"word" => word(text, answer),
+        b"assign" => assign(text, answer),
+        b"redir" => redir(text, answer),
+        b"regex" => regex(text, answer),
+        b"mark" => mark(text, answer),
+        b"documents" => documents(text, answer),
         b"unsigned" => unsigned(text, answer),
         b"signed" => signed(text, answer),
         b"digest" => digest(text, answer),
