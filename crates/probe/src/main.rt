@@ -46,6 +46,8 @@
 //! | `funcs CALL..` | what the calls answer, as the head of `data/functions.rows` says |
 //! | `braces TEXT` | `ok` and the text of each word that the text's braces give, `many`, or `no` where it is no word |
 //! | `brace_count TEXT` | `ok` and how many words the text's braces give, or the same |
+//! | `shopt ON WORD..` | `ok`, the status, what is printed, the steps used of 10, the options on; or `fault` and its text |
+//! | `set ON WORD..` | `ok`, the options on, and `parameters` and each where they are given; or `fault` and its text |
 //! | `ansi TEXT`; `ansi_value TEXT` | what `$'..'` around the text stands for; `ok` and that, or `Quoting` |
 //! | `fault NAME [FIELD]..` | the text of the fault of a script; a text or a number in decimal for each field |
 //! | `share KIND TEXT` | the kind and the text of what `share` gives of a tree of this kind and text |
