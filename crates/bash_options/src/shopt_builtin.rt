@@ -80,7 +80,7 @@ fn show<L: Ledger>(
 }
 
 fn refused(alloc: Global, why: Wrong<'_>) -> Stop
-    ensures { IsFault result (seen_fault why) }
+    ensures { IsFault result (seen_fault why.entry) }
 {
     match why {
         Wrong::BadUse => bad_use(alloc, b"shopt"),
