@@ -46,7 +46,7 @@ not_given stop.Failed command e t name i store k at same h = absurd h
 not_given stop.Memory command e t name i store k at same h =
     subst (λ n. left_of (given name i (judged command e t) at) ≤ n) same (given_left name i (judged command e t) at)
 
--- a fault or the end of memory of a part is one of the whole
+-- a fault or the end of memory of a part is one of the whole, in the state at that moment
 stopped : {A B : Type 0} (why : Stop) (o : Outcome A) (f : A → Doing B) (at : State)
     → ((a : A) (p : State) → left_of (f a p) ≤ p.left) → Tells {A = A} (Err why) o at → Tells {A = B} (Err why) (and_then o f) at
 stopped (stop.Fault why) o f at less h = ap (λ q. and_then q f) h
@@ -97,6 +97,22 @@ pub is_taken : (r : Result Text Fault) (t name : Text) (i : Option ℤ) (store :
 is_taken r t name i store k at e h g = paid r t name i k at e h ∙ ap (λ o. and_then o (λ _. pure 0)) g
 
 -- ---- the subscript first
+
+pub no_subscript : (s : Option Text) (store : Store) (k : ℕ) (at : State) → s ≡ None → at.store ≡ store → at.left ≡ k
+    → Tells {A = Option ℤ} (Ok None) (index_of s at) (record at { store = store; left = k })
+no_subscript s store k at e same less =
+    ap (λ q. index_of q at) e ∙ ap (λ x. Ended None (record at { store = x })) same
+    ∙ ap (λ n. Ended None (record at { store = store; left = n })) less
+
+pub index_taken : (s : Option Text) (t : Text) (n : ℤ) (at after : State) → s ≡ Some t → Tells {A = ℤ} (Ok n) (evaluates t at) after
+    → Tells {A = Option ℤ} (Ok (Some n)) (index_of s at) after
+index_taken s t n at after e h = ap (λ q. index_of q at) e ∙ ap (λ o. and_then o (λ m. pure (Some m))) h
+
+pub index_fails : (why : Stop) (s : Option Text) (t : Text) (at after : State) → s ≡ Some t → Tells {A = ℤ} (Err why) (evaluates t at) after
+    → Tells {A = Option ℤ} (Err why) (index_of s at) after
+index_fails why s t at after e h =
+    subst (λ q. Tells {A = Option ℤ} (Err why) (index_of q at) after) (sym e)
+    (stopped why (evaluates t at) (λ m. pure (Some m)) after (λ _ p. omega arith) h)
 
 pub index_stopped : (why : Stop) (s : Option Text) (name : Text) (r : Result Text Fault) (at : State)
     → Tells {A = Option ℤ} (Err why) (index_of s at) at → Tells {A = ℕ} (Err why) (gives name s r at) at

@@ -1,12 +1,16 @@
 -- What a text costs, and what is printed then.
-use Rattle.std.proofs.Common.{◌≡◌, ◌⊎◌, inl, inr, ℕ, ◌+◌, ◌-◌, ◌<◌, ◌≤◌, Ok, Err, refl, sym, ap, subst, ◌∙◌, arith}
-use Rattle.shell_state.specs.Outcome.{Outcome, Ended, Faulted, and_then, left_of, pure, Tells}
-use Rattle.shell_state.specs.Spending.{spend}
+use Rattle.std.proofs.Common.{◌≡◌, ◌⊎◌, inl, inr, ℕ, ◌+◌, ◌-◌, ◌^◌, ◌<◌, ◌≤◌, length, refl, sym, ap, subst, ◌∙◌, arith}
+use Rattle.std.proofs.lemmas.Nat.{le-div}
+use Rattle.eb_bytes.specs.Text.{Text}
+use Rattle.shell_state.specs.Outcome.{Ended, Faulted, left_of}
+use Rattle.shell_state.specs.Spending.{spend, text_cost}
 use Rattle.shell_state.specs.State.{State}
 use Rattle.shell_state.specs.declared.fault.Fault.{Fault}
-use Rattle.shell_state.specs.declared.stop.Stop.{Stop}
-use Rattle.shell_state.specs.declared.stop.Stop.TheVariants as stop
 use Rattle.shell_state.proofs.Spent.{at_most, enough, short}
+
+-- what a text of 2^64 bytes costs, or of one byte less
+pub costs_most : (t : Text) → 2 ^ 64 ≤ length t + 1 → 288230376151711744 ≤ text_cost t
+costs_most t le = le-div 288230376151711744 (length t + 1) 64 (omega arith) (omega (arith, le))
 
 -- where so many steps are not left, more are not either
 pub more_is_spent : (m n left : ℕ) (why : Fault) (at : State) → m ≤ n

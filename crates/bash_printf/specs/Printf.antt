@@ -1,9 +1,9 @@
 -- `printf` (Bash Reference Manual, "Bash Builtin Commands").
 use Rattle.std.specs.Prelude.{ℕ, ℤ, Option, Some, None, List, Result, Ok, Err, codes}
-use Rattle.std.specs.Option.{option_map}
 use Rattle.eb_bytes.specs.Text.{Text}
-use Rattle.shell_state.specs.Outcome.{Doing, ◌>>=◌, ◌>>◌, pure, refuse}
+use Rattle.shell_state.specs.Outcome.{Doing, ◌<$>◌, ◌>>=◌, ◌>>◌, pure, refuse}
 use Rattle.shell_state.specs.Spending.{spend, text_cost}
+use Rattle.shell_state.specs.declared.fault.Fault.{Fault}
 use Rattle.bash_cond.specs.Arithmetic.{evaluates}
 use Rattle.bash_assign.specs.Assignments.{assigns}
 use Rattle.printf_format.specs.Formats.{formatted}

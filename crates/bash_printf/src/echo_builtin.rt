@@ -1,5 +1,5 @@
 ghost use Rattle.std.specs.Prelude.{◌≡◌, ◌≢◌, ◌+◌, ◌≤◌, ◌++◌, [], codes, drop, Err, IfOk, fold};
-ghost use Rattle.std.specs.List.{join_with_byte};
+ghost use Rattle.std.specs.List.{join_with_byte, list_all};
 ghost use Rattle.printf_format.specs.Fields.{shown};
 ghost use Rattle.shell_state.specs.Outcome.{Tells};
 ghost use Rattle.shell_state.specs.Spending.{left};
@@ -83,9 +83,15 @@ fn is_option(word: &[u8]) -> bool
     ensures { result ≡ is_option_of word.now }
 {
     match word {
-        [b'-', letters @ ..] => !letters.is_empty() && letters.iter().all(|byte| is_letter(*byte)),
+        [b'-', letters @ ..] => !letters.is_empty() && are_letters(letters),
         _ => false,
     }
+}
+
+fn are_letters(text: &[u8]) -> bool
+    ensures { result ≡ list_all is_letter_of text.now }
+{
+    text.iter().all(|byte| is_letter(*byte))
 }
 
 fn is_letter(byte: u8) -> bool

@@ -163,7 +163,7 @@ fn give<L: Ledger>(
 
 // What the words being wrong so is to a script: the fault, or out of memory.
 fn refusal(alloc: Global, why: Wrong<'_>) -> Stop
-    ensures { IsWrong result (seen_fault why) }
+    ensures { IsWrong result (seen_fault why.entry) }
 {
     match fault_of(alloc, why) {
         Ok(fault) => Stop::Fault(fault),
@@ -172,7 +172,7 @@ fn refusal(alloc: Global, why: Wrong<'_>) -> Stop
 }
 
 fn fault_of(alloc: Global, why: Wrong<'_>) -> Result<Fault, Memory>
-    ensures { IfOk result (λ fault. fault ≡ seen_fault why) }
+    ensures { IfOk result (λ fault. fault ≡ seen_fault why.entry) }
 {
     match why {
         Wrong::BadUse => Ok(Fault::BadUse(Bytes::from_slice(alloc, b"printf")?)),

@@ -93,7 +93,7 @@ fn unknown(letters: &[u8]) -> Option<u8>
 
 // After the options: a format and its words.
 fn begun<'a>(to: Option<Destination<'a>>, words: &'a [Bytes]) -> Job<'a>
-    ensures { seen result ≡ begun_by (option_map seen_destination to) words.now }
+    ensures { seen result ≡ begun_by (option_map seen_destination to.entry) words.now }
 {
     match words {
         [] => Job::Refused(Wrong::BadUse),
@@ -117,7 +117,7 @@ fn name_len(word: &[u8]) -> usize
 }
 
 fn named<'a>(name: &'a [u8], subscript: Option<Option<&'a [u8]>>) -> Option<Destination<'a>>
-    ensures { option_map seen_destination result ≡ named_by name.now (option_map option_copied subscript) }
+    ensures { option_map seen_destination result ≡ named_by name.now (option_map option_copied subscript.entry) }
 {
     match subscript {
         Some(subscript) if is_name(name) => Some(Destination { name, subscript }),

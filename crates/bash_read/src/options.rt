@@ -128,7 +128,7 @@ fn unknown(letters: &[u8]) -> Option<u8>
 
 // With the letters of an option that take no word.
 fn with_letters<'a>(letters: &[u8], options: Options<'a>) -> Options<'a>
-    ensures { seen_options result ≡ with_letters_of letters.now (seen_options options) }
+    ensures { seen_options result ≡ with_letters_of letters.now (seen_options options.entry) }
 {
     Options {
         raw: options.raw || letters.iter().any(|letter| *letter == b'r'),
@@ -138,7 +138,7 @@ fn with_letters<'a>(letters: &[u8], options: Options<'a>) -> Options<'a>
 
 // With a letter and its word; none where the word is to be a name and is none.
 fn with_word<'a>(letter: u8, word: &'a [u8], options: Options<'a>) -> Option<Options<'a>>
-    ensures { option_map seen_options result ≡ with_word_of letter word.now (seen_options options) }
+    ensures { option_map seen_options result ≡ with_word_of letter word.now (seen_options options.entry) }
 {
     match letter {
         b'a' => is_name(word).then_some(Options {
@@ -164,7 +164,7 @@ fn first_byte(word: &[u8]) -> Option<u8>
 
 // After the options: the names.
 fn named<'a>(options: Options<'a>, names: &'a [Bytes]) -> Job<'a>
-    ensures { seen result ≡ names_said (seen_options options) names.now }
+    ensures { seen result ≡ names_said (seen_options options.entry) names.now }
 {
     match no_name(names) {
         Some(word) => Job::Refused(Wrong::BadName(word)),
@@ -186,7 +186,7 @@ fn no_name(words: &[Bytes]) -> Option<&[u8]>
 
 // What the words being wrong so is to a script: the fault, or out of memory.
 pub(crate) fn refusal(alloc: Global, why: Wrong<'_>) -> Stop
-    ensures { IsWrong result (seen_fault why) }
+    ensures { IsWrong result (seen_fault why.entry) }
 {
     match fault_of(alloc, why) {
         Ok(fault) => Stop::Fault(fault),
@@ -195,7 +195,7 @@ pub(crate) fn refusal(alloc: Global, why: Wrong<'_>) -> Stop
 }
 
 fn fault_of(alloc: Global, why: Wrong<'_>) -> Result<Fault, Memory>
-    ensures { IfOk result (λ fault. fault ≡ seen_fault why) }
+    ensures { IfOk result (λ fault. fault ≡ seen_fault why.entry) }
 {
     match why {
         Wrong::BadUse => Ok(Fault::BadUse(Bytes::from_slice(alloc, b"read")?)),

@@ -106,10 +106,7 @@ fn field_len(ifs: &Ifs<'_>, marks: &[Mark]) -> usize
     ensures value { result ≡ prefix_len (is_field_mark ifs.now) marks.now }
     ensures within { result ≤ length marks.now }
 {
-    marks
-        .iter()
-        .take_while(|mark| is_part(ifs, **mark))
-        .count()
+    marks.iter().take_while(|mark| is_part(ifs, **mark)).count()
 }
 
 fn is_part(ifs: &Ifs<'_>, mark: Mark) -> bool

@@ -167,12 +167,7 @@ fn give_names(alloc: Global, names: &[Bytes], marks: &Marked, vars: &mut Vars) -
 }
 
 // Gives each name its text.
-fn give_each(
-    alloc: Global,
-    names: &[Bytes],
-    texts: &[Bytes],
-    vars: &mut Vars,
-) -> Result<(), Stop>
+fn give_each(alloc: Global, names: &[Bytes], texts: &[Bytes], vars: &mut Vars) -> Result<(), Stop>
     requires as_many { length texts.now ≡ length names.now }
     ensures means { (at : State) → at.store ≡ vars.old.present →
         Tells result (assigns_each names.now texts.now at) (record at { store = vars.new.present }) }
