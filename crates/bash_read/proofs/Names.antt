@@ -1,5 +1,5 @@
 -- Names that take their texts one after another.
-use Rattle.std.proofs.Common.{◌≡◌, ℕ, zero, suc, List, [], ◌∷◌, length, None, refl, ap, ◌∙◌}
+use Rattle.std.proofs.Common.{◌≡◌, ℕ, zero, suc, ◌+◌, ◌-◌, ◌<◌, ◌≤◌, List, [], ◌∷◌, length, drop, length-drop, Err, None, refl, ap, ◌∙◌, arith}
 use Rattle.eb_bytes.specs.Text.{Text}
 use Rattle.shell_marks.specs.declared.marked.Mark.{Mark}
 use Rattle.shell_state.specs.Outcome.{Ended, and_then, Tells}
@@ -10,7 +10,6 @@ use Rattle.bash_assign.specs.Assignments.{assigns}
 use Rattle.bash_read.specs.Parts.{after_field, texts_for}
 use Rattle.bash_read.specs.Read.{assigns_each}
 use Rattle.bash_read.proofs.Kept.{each_left}
-use Rattle.std.proofs.Common.{◌≤◌, Err, arith}
 use Rattle.shell_state.specs.Outcome.{Outcome, Faulted, left_of}
 
 -- as many as there are names
@@ -35,3 +34,8 @@ first_stopped stop.Failed names ts others more name t at after e f same h =
     let less : left_of (assigns_each names ts at) ≤ at.left = each_left names ts at in omega (arith, same, less)
 first_stopped stop.Memory names ts others more name t at after e f same h =
     let less : left_of (assigns_each names ts at) ≤ at.left = each_left names ts at in omega (arith, same, less)
+
+-- a place and what is taken from there fit a number of 64 bits
+pub place_fits : (t : Text) (place taken : ℕ) → taken ≤ length (drop place t) → place < 18446744073709551616
+    → length t < 9223372036854775808 → place + taken < 18446744073709551616
+place_fits t place taken le p q = let e : length (drop place t) ≡ length t - place = length-drop place t in omega (arith, le, p, q, e)

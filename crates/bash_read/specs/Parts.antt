@@ -1,6 +1,6 @@
 -- How `read` gives a line to names (Bash Reference Manual, "Bash Builtin Commands", `read`; "Word Splitting").
-use Rattle.std.specs.Prelude.{ℕ, zero, suc, Bool, true, false, not, List, [], ◌∷◌, ◌++◌, drop, reverse, if◌then◌else◌}
-use Rattle.std.specs.List.{position_or_len, prefix_len, take_while}
+use Rattle.std.specs.Prelude.{ℕ, zero, suc, ◌-◌, Bool, true, false, List, [], ◌∷◌, drop, length, reverse, take, if◌then◌else◌}
+use Rattle.std.specs.List.{prefix_len}
 use Rattle.shell_marks.specs.declared.marked.Mark.{Mark}
 use Rattle.shell_marks.specs.Marks.{unquoted}
 use Rattle.eb_bytes.specs.Text.{Text}
@@ -24,13 +24,23 @@ is_field_mark ifs m = is_part (role ifs m)
 abbrev pub after_blanks : Text → List Mark → List Mark
 after_blanks ifs ms = drop (prefix_len (is_ifs_blank ifs) ms) ms
 
+abbrev pub blanks_at_end : Text → List Mark → ℕ
+blanks_at_end ifs ms = prefix_len (is_ifs_blank ifs) (reverse ms)
+
+abbrev pub without_end : Text → List Mark → List Mark
+without_end ifs ms = take (length ms - blanks_at_end ifs ms) ms
+
 -- without those at the end either
 abbrev pub trimmed : Text → List Mark → List Mark
-trimmed ifs ms = reverse (after_blanks ifs (reverse (after_blanks ifs ms)))
+trimmed ifs ms = without_end ifs (after_blanks ifs ms)
+
+-- how many marks the field has that marks begin with
+abbrev pub field_length : Text → List Mark → ℕ
+field_length ifs ms = prefix_len (is_field_mark ifs) ms
 
 -- the field that marks begin with, after their IFS blanks
 abbrev pub first_field : Text → List Mark → List Mark
-first_field ifs ms = take_while (is_field_mark ifs) (after_blanks ifs ms)
+first_field ifs ms = take (field_length ifs (after_blanks ifs ms)) (after_blanks ifs ms)
 
 abbrev pub is_separator_role : Role → Bool
 is_separator_role Separator = true
@@ -45,7 +55,7 @@ after_separator ifs (m ∷ ms) = if is_separator_role (role ifs m) then ms else 
 
 -- what is left after that field and its delimiter: IFS blanks with at most one other byte of IFS
 abbrev pub after_field : Text → List Mark → List Mark
-after_field ifs ms = after_separator ifs (after_blanks ifs (drop (prefix_len (is_field_mark ifs) (after_blanks ifs ms)) (after_blanks ifs ms)))
+after_field ifs ms = after_separator ifs (after_blanks ifs (drop (field_length ifs (after_blanks ifs ms)) (after_blanks ifs ms)))
 
 -- the text of the last name: the rest without IFS blanks round it, or, where that is one field and its delimiter, the field
 abbrev pub whole_or_field : List (List Mark) → List Mark → Text

@@ -1,7 +1,7 @@
 ghost use Rattle.std.specs.Prelude.{◌≡◌, ◌≤◌, length, IfOk, not};
 ghost use Rattle.std.specs.List.{prefix_len};
 ghost use Rattle.shell_marks.specs.Marks.{unquoted};
-ghost use Rattle.bash_read.specs.Parts.{after_blanks as after_blanks_of, after_field as after_field_of, after_separator as after_separator_of, first_field as first_field_of, is_field_mark, is_ifs_blank, is_separator_role, last_text as last_text_of, texts_for, trimmed as trimmed_of};
+ghost use Rattle.bash_read.specs.Parts.{after_blanks as after_blanks_of, after_field as after_field_of, after_separator as after_separator_of, blanks_at_end as blanks_at_end_of, field_length, first_field as first_field_of, is_field_mark, is_ifs_blank, is_separator_role, last_text as last_text_of, texts_for, trimmed as trimmed_of};
 ghost use Rattle.bash_split.specs.Fields.{role};
 
 use bash_split::{Ifs, Role, split};
@@ -82,11 +82,17 @@ fn after_separator<'a>(ifs: &Ifs<'_>, marks: &'a [Mark]) -> &'a [Mark]
 fn after_blanks<'a>(ifs: &Ifs<'_>, marks: &'a [Mark]) -> &'a [Mark]
     ensures { result.now ≡ after_blanks_of ifs.now marks.now }
 {
-    let count = marks
+    &marks[blank_count(ifs, marks)..]
+}
+
+fn blank_count(ifs: &Ifs<'_>, marks: &[Mark]) -> usize
+    ensures value { result ≡ prefix_len (is_ifs_blank ifs.now) marks.now }
+    ensures within { result ≤ length marks.now }
+{
+    marks
         .iter()
         .take_while(|mark| is_blank(ifs, **mark))
-        .count();
-    &marks[count..]
+        .count()
 }
 
 // Without IFS blanks at both ends.
@@ -94,16 +100,22 @@ fn trimmed<'a>(ifs: &Ifs<'_>, marks: &'a [Mark]) -> &'a [Mark]
     ensures { result.now ≡ trimmed_of ifs.now marks.now }
 {
     let rest = after_blanks(ifs, marks);
-    let blanks = rest
+    &rest[..rest.len() - blanks_at_end(ifs, rest)]
+}
+
+fn blanks_at_end(ifs: &Ifs<'_>, marks: &[Mark]) -> usize
+    ensures value { result ≡ blanks_at_end_of ifs.now marks.now }
+    ensures within { result ≤ length marks.now }
+{
+    marks
         .iter()
         .rev()
         .take_while(|mark| is_blank(ifs, **mark))
-        .count();
-    &rest[..rest.len() - blanks]
+        .count()
 }
 
 fn field_len(ifs: &Ifs<'_>, marks: &[Mark]) -> usize
-    ensures value { result ≡ prefix_len (is_field_mark ifs.now) marks.now }
+    ensures value { result ≡ field_length ifs.now marks.now }
     ensures within { result ≤ length marks.now }
 {
     marks.iter().take_while(|mark| is_part(ifs, **mark)).count()

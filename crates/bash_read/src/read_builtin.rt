@@ -64,7 +64,7 @@ fn take(
         options.delimiter,
         from(&io.input, io.place),
     )?;
-    io.place = io.place.saturating_add(line.taken);
+    io.place += line.taken;
     give_line(alloc, options.array, names, &line.marks, vars)?;
     Ok(status_of(line.ended))
 }
