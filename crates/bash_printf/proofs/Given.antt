@@ -114,6 +114,7 @@ index_fails why s t at after e h =
     subst (λ q. Tells {A = Option ℤ} (Err why) (index_of q at) after) (sym e)
     (stopped why (evaluates t at) (λ m. pure (Some m)) after (λ _ p. omega arith) h)
 
-pub index_stopped : (why : Stop) (s : Option Text) (name : Text) (r : Result Text Fault) (at : State)
-    → Tells {A = Option ℤ} (Err why) (index_of s at) at → Tells {A = ℕ} (Err why) (gives name s r at) at
-index_stopped why s name r at h = stopped why (index_of s at) (λ i. given name i r) at (λ i p. given_left name i r p) h
+pub index_stopped : (why : Stop) (s : Option Text) (name : Text) (r : Result Text Fault) (at after : State)
+    → Tells {A = Option ℤ} (Err why) (index_of s at) after → Tells {A = ℕ} (Err why) (gives name s r at) after
+index_stopped why s name r at after h =
+    stopped why (index_of s at) (λ i. given name i r) after (λ i p. given_left name i r p) h

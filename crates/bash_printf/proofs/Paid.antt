@@ -10,7 +10,7 @@ use Rattle.shell_state.proofs.Spent.{at_most, enough, short}
 
 -- what a text of 2^64 bytes costs, or of one byte less
 pub costs_most : (t : Text) → 2 ^ 64 ≤ length t + 1 → 288230376151711744 ≤ text_cost t
-costs_most t le = le-div 288230376151711744 (length t + 1) 64 (omega arith) (omega (arith, le))
+costs_most t le = le-div 288230376151711744 (0 + (length t + 1)) 64 (omega arith) (omega (arith, le))
 
 -- where so many steps are not left, more are not either
 pub more_is_spent : (m n left : ℕ) (why : Fault) (at : State) → m ≤ n

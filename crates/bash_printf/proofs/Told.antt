@@ -30,7 +30,7 @@ prints_left t at = by (spend (text_cost t) at) (never_rises (text_cost t) at)
     by (Ended done p) le = let less : left_of (puts p.io.out t p) ≤ p.left = puts_left t p in omega arith
     by (Faulted why l asked) le = le
 
-ends_left : (o : Outcome (Unit {0})) (k : ℕ) → left_of o ≤ k → left_of (and_then o (λ _. pure 0)) ≤ k
+ends_left : (o : Outcome (Unit {0})) (k : ℕ) → left_of o ≤ k → left_of {A = ℕ} (and_then o (λ _. pure 0)) ≤ k
 ends_left (Ended done p) k le = le
 ends_left (Faulted why l asked) k le = le
 

@@ -57,7 +57,7 @@ pub fn printf<L: Ledger>(
 }
 
 // Prints a format with its words.
-#[tactic(auto, using(crate::proofs::Told::told_ok, crate::proofs::Told::told_err, crate::proofs::Told::told_fault))]
+#[tactic(auto, using(crate::proofs::Told::told_ok, crate::proofs::Told::told_err, crate::proofs::Told::told_fault, crate::proofs::Told::told_left))]
 fn print_format<L: Ledger>(
     alloc: Global,
     format: &[u8],
@@ -80,7 +80,6 @@ fn print_format<L: Ledger>(
 }
 
 // Gives the text of a format and its words to a variable or an element.
-#[tactic(auto, using(crate::proofs::Given::index_stopped))]
 fn give_format<L: Ledger>(
     alloc: Global,
     to: &Destination<'_>,
@@ -133,6 +132,7 @@ fn index_of<L: Ledger>(
 }
 
 // Gives the text of a format and its words to a variable, or to its element of this index, once it is paid.
+#[tactic(auto, using(crate::proofs::Given::given_left, crate::proofs::Given::not_given))]
 fn give<L: Ledger>(
     alloc: Global,
     name: &[u8],

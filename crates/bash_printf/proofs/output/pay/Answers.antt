@@ -6,4 +6,4 @@ use Rattle.bash_printf.proofs.output.pay.Goals as goal
 pub returns-in_ok-spend-in-None-clause-means : goal.returns-in_ok-spend-in-None-clause-means
 returns-in_ok-spend-in-None-clause-means g c at same =
     more_is_kept 288230376151711744 (text_cost c.args.drawn.now) _ at (costs_most c.args.drawn.now c.in-None.ensures.none)
-    (c.in_ok-spend.ensures.means at same)
+    (c.in_ok-spend-in-None.ensures.means at same)
