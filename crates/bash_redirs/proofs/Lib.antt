@@ -1,5 +1,6 @@
 pub mod Bodies
 pub mod DelimiterParts
+pub mod DelimiterWords
 pub mod Enclosed
 pub mod HereRedirs
 pub mod HereTexts

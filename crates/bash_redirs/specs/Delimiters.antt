@@ -51,11 +51,15 @@ ansi_told = (λ t. (p.Ansi t, quoted (ansi_text t))) <$> ansi_quoted
 abbrev pub bare_told : Rule Piece → Rule (Piece × Unquoted)
 bare_told p = (λ x. (x.0, bare x.1)) <$> with_text p
 
+-- a piece that is the bytes that it takes, where so many nestings may still be opened
+unfoldable pub bare_at : ℕ → Rule (Piece × Unquoted)
+bare_at n = bare_told (piece (inside n))
+
 -- the alternatives of a mark's piece that open a nesting, and those after them
 unfoldable pub nested_told : ℕ → Rule (Piece × Unquoted)
 nested_told n = unquoted_double (inside n)
     </> group_at n
-    </> bare_told (piece (inside n))
+    </> bare_at n
 
 -- the alternatives in single quotes, and those after them
 unfoldable pub quoted_told : ℕ → Rule (Piece × Unquoted)

@@ -4,7 +4,7 @@
 ghost use Rattle.std.specs.Prelude.{◌+◌, ◌<◌};
 ghost use Rattle.bash_cursor.specs.Reads.{Reads, ReadsBelow};
 ghost use Rattle.bash_redirs.specs.At.{piece_at, quoted_at, unquoted_at};
-ghost use Rattle.bash_redirs.specs.Delimiters.{ansi_told, bare_told, escaped_told, nested_told, quoted_told, single_told};
+ghost use Rattle.bash_redirs.specs.Delimiters.{ansi_told, bare_at, escaped_told, nested_told, quoted_told, single_told};
 ghost use Rattle.eb_grammar.specs.Grammar.{inside};
 ghost use Rattle.eb_grammar.specs.HereDocuments as here;
 ghost use Rattle.eb_grammar.specs.Peg.{many};
@@ -20,12 +20,13 @@ use eb_bytes::Bytes;
 use eb_syntax::{Piece, QPiece, Word};
 
 // A piece that is the bytes that it takes.
+#[tactic(auto, unfolding(crate::specs::Delimiters::bare_at))]
 fn bare_piece<P: Fn(&mut Cursor<'_>) -> Result<Piece, LexErr>>(
     c: &mut Cursor<'_>,
     piece: &P,
 ) -> Result<(Piece, Unquoted), LexErr>
     requires { ReadsBelow piece_at (c.old.room + 1) (P.pre piece.now) (P.post piece.now) }
-    ensures { Reads (bare_told (piece_at c.old.room)) c.old result c.new }
+    ensures { Reads (bare_at c.old.room) c.old result c.new }
 {
     let start = c.here();
     let (text, from) = (c.rest(), c.place());
@@ -168,7 +169,7 @@ fn more_pieces<
 /// # Errors
 /// `NoParse` exactly where no word stands at the place, `TooDeep` exactly where reading it opens more nestings than may
 /// be open, `Memory` where there is no room for it.
-#[tactic(auto, unfolding(eb_grammar::specs::HereDocuments::delimiter_word, eb_grammar::specs::Peg::word_of))]
+#[tactic(auto, using(crate::proofs::DelimiterWords::word_hash, crate::proofs::DelimiterWords::word_none, crate::proofs::DelimiterWords::word_stop, crate::proofs::DelimiterWords::word_read))]
 pub fn delimiter_word<
     P: Fn(&mut Cursor<'_>) -> Result<Piece, LexErr>,
     Q: Fn(&mut Cursor<'_>) -> Result<QPiece, LexErr>,
