@@ -55,11 +55,15 @@ bare_told p = (λ x. (x.0, bare x.1)) <$> with_text p
 unfoldable pub bare_at : ℕ → Rule (Piece × Unquoted)
 bare_at n = bare_told (piece (inside n))
 
+-- a group, or a piece that is the bytes that it takes
+unfoldable pub grouped_told : ℕ → Rule (Piece × Unquoted)
+grouped_told n = group_at n
+    </> bare_at n
+
 -- the alternatives of a mark's piece that open a nesting, and those after them
 unfoldable pub nested_told : ℕ → Rule (Piece × Unquoted)
 nested_told n = unquoted_double (inside n)
-    </> group_at n
-    </> bare_at n
+    </> grouped_told n
 
 -- the alternatives in single quotes, and those after them
 unfoldable pub quoted_told : ℕ → Rule (Piece × Unquoted)

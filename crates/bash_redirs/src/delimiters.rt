@@ -4,7 +4,7 @@
 ghost use Rattle.std.specs.Prelude.{◌+◌, ◌<◌};
 ghost use Rattle.bash_cursor.specs.Reads.{Reads, ReadsBelow};
 ghost use Rattle.bash_redirs.specs.At.{piece_at, quoted_at, unquoted_at};
-ghost use Rattle.bash_redirs.specs.Delimiters.{ansi_told, bare_at, escaped_told, nested_told, quoted_told, single_told};
+ghost use Rattle.bash_redirs.specs.Delimiters.{ansi_told, bare_at, escaped_told, grouped_told, nested_told, quoted_told, single_told};
 ghost use Rattle.eb_grammar.specs.Grammar.{inside};
 ghost use Rattle.eb_grammar.specs.HereDocuments as here;
 ghost use Rattle.eb_grammar.specs.Peg.{many};
@@ -65,8 +65,24 @@ fn ansi_piece(c: &mut Cursor<'_>) -> Result<(Piece, Unquoted), LexErr>
     Ok(or_back!(c, start, ansi_of(c.alloc(), text)))
 }
 
-// A piece in double quotes, a group, or one that is the bytes that it takes.
-#[tactic(auto, unfolding(crate::specs::Delimiters::nested_told))]
+// A group, or a piece that is the bytes that it takes.
+#[tactic(auto, using(crate::proofs::MarkPieces::no_group), unfolding(crate::specs::Delimiters::grouped_told))]
+fn group_or_bare<
+    P: Fn(&mut Cursor<'_>) -> Result<Piece, LexErr>,
+    U: Fn(&mut Cursor<'_>) -> Result<(Piece, Unquoted), LexErr>,
+>(c: &mut Cursor<'_>, piece: &P, unquoted: &U) -> Result<(Piece, Unquoted), LexErr>
+    requires pieces { ReadsBelow piece_at (c.old.room + 1) (P.pre piece.now) (P.post piece.now) }
+    requires in_groups { ReadsBelow unquoted_at c.old.room (U.pre unquoted.now) (U.post unquoted.now) }
+    ensures { Reads (grouped_told c.old.room) c.old result c.new }
+{
+    if let Some(found) = attempt!(group(c, unquoted)) {
+        return Ok(found);
+    }
+    bare_piece(c, piece)
+}
+
+// A piece in double quotes, or one of these.
+#[tactic(auto, using(crate::proofs::MarkPieces::no_double), unfolding(crate::specs::Delimiters::nested_told))]
 fn nested_piece<
     P: Fn(&mut Cursor<'_>) -> Result<Piece, LexErr>,
     Q: Fn(&mut Cursor<'_>) -> Result<QPiece, LexErr>,
@@ -80,10 +96,7 @@ fn nested_piece<
     if let Some(found) = attempt!(double(c, quoted)) {
         return Ok(found);
     }
-    if let Some(found) = attempt!(group(c, unquoted)) {
-        return Ok(found);
-    }
-    bare_piece(c, piece)
+    group_or_bare(c, piece, unquoted)
 }
 
 // A piece in single quotes, or one of these.
