@@ -47,6 +47,10 @@
 //! | `braces TEXT` | `ok` and the text of each word that the text's braces give, or `many` |
 //! | `ansi TEXT`; `ansi_value TEXT` | what `$'..'` around the text stands for; `ok` and that, or `Quoting` |
 //! | `fault NAME [FIELD]..` | the text of the fault of a script; a text or a number in decimal for each field |
+//! | `word TEXT` | `place N`, where a word at the text's start ends; `no`, `deep LINE`, or `commands` where some stand in it |
+//! | `assign TEXT`; `redir TEXT`; `regex TEXT` | the same of an assignment, a redirection, a regular expression |
+//! | `mark TEXT` | the same of a here-document's word, then `bare` or `quoted` and the text that ends its body |
+//! | `documents TEXT` | the same of redirections, assignments and lines, then what is read of their here-documents |
 //! | `share KIND TEXT` | the kind and the text of what `share` gives of a tree of this kind and text |
 //! | `arith TEXT [steps LIMIT] [GIVEN]..` | `ok N` or the fault, `steps N`, then each variable given or set |
 //! | `read LEVELS TEXT` | `ok` and the number of an expression's instructions, or the refusal's name |

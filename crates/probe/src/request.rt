@@ -5,8 +5,10 @@ use probe_packages::{
     signed, test, unquoted, unsigned, version, words,
 };
 use probe_patterns::{Search, find, operate, parameters, slice, split, substring};
+use probe_redirs::{assign, documents, mark, redir, regex};
 use probe_trees::{ansi, ansi_expanded, braces, fault, funcs, share};
 use probe_variables::{arith, read, vars};
+use probe_words::word;
 use std::alloc::Global;
 
 /// The answer to a line.
@@ -71,6 +73,12 @@ fn answer_texts(request: &[u8], texts: &[Bytes], answer: &mut Answer) -> Result<
 fn answer_text(request: &[u8], text: &[u8], answer: &mut Answer) -> Result<(), Fault> {
     match request {
         b"words" => words(text, answer),
+        b"word" => word(text, answer),
+        b"assign" => assign(text, answer),
+        b"redir" => redir(text, answer),
+        b"regex" => regex(text, answer),
+        b"mark" => mark(text, answer),
+        b"documents" => documents(text, answer),
         b"unsigned" => unsigned(text, answer),
         b"signed" => signed(text, answer),
         b"digest" => digest(text, answer),
