@@ -2,9 +2,9 @@
 //! product.
 #![tactic(auto)]
 
-mod documents;
 mod ends;
+mod here_documents;
 mod readers;
 
-pub use documents::documents;
 pub use ends::{assign, mark, redir, regex};
+pub use here_documents::documents;
