@@ -1,17 +1,18 @@
 -- Assignments that are refused.
 use Rattle.std.proofs.Common.{◌≡◌, ◌≢◌, ℤ, Option, Result, Ok, Err, refl, sym, ap, ◌∙◌, ◌≤◌, arith}
 use Rattle.eb_bytes.specs.Text.{Text}
-use Rattle.shell_vars.specs.Calls.{assign}
+use Rattle.shell_vars.specs.Calls.{assign, set}
 use Rattle.shell_vars.specs.Store.{Store}
 use Rattle.shell_vars.specs.Stores.{Refuses}
 use Rattle.shell_vars.specs.declared.error.VarErr.{VarErr}
 use Rattle.shell_vars.specs.declared.error.VarErr.TheVariants as error
+use Rattle.shell_vars.specs.declared.value.Value.{Value}
 use Rattle.shell_state.specs.Outcome.{Faulted, Tells, left_of}
 use Rattle.shell_state.specs.State.{State}
 use Rattle.shell_state.specs.Stops.{IsRefusal}
 use Rattle.shell_state.specs.declared.stop.Stop.{Stop}
 use Rattle.shell_state.specs.declared.stop.Stop.TheVariants as stop
-use Rattle.bash_assign.specs.Assignments.{assigns, changed}
+use Rattle.bash_assign.specs.Assignments.{assigns, changed, sets}
 
 given_is : (e : VarErr) (given : Result Store VarErr) → e ≢ error.Memory → Refuses e given → given ≡ Err e
 given_is error.Readonly given isnt h = h
@@ -37,6 +38,13 @@ pub refused : (why : Stop) (name : Text) (index : Option ℤ) (t : Text) (e : Va
     → Tells (Err why) (assigns name index t at) (record at { store = new })
 refused why name index t e old new at is h same = by_stop why name e (assign name index t at.store) at new is (rw same h)
 
+pub not_set : (why : Stop) (name : Text) (v : Value) (e : VarErr) (old new : Store) (at : State)
+    → IsRefusal why name e → Refuses e (set name v old) → at.store ≡ old → Tells (Err why) (sets name v at) (record at { store = new })
+not_set why name v e old new at is h same = by_stop why name e (set name v at.store) at new is (rw same h)
+
 -- no step is given back
+pub sets_left : (name : Text) (v : Value) (at : State) → left_of (sets name v at) ≤ at.left
+sets_left name v at = changed_left name (set name v at.store) at
+
 pub assigns_left : (name : Text) (index : Option ℤ) (t : Text) (at : State) → left_of (assigns name index t at) ≤ at.left
 assigns_left name index t at = changed_left name (assign name index t at.store) at
