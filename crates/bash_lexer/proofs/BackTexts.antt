@@ -3,9 +3,8 @@ use Rattle.std.proofs.Common.{◌≡◌, ℕ, zero, suc, ◌+◌, ◌<◌, ◌�
 use Rattle.eb_bytes.specs.Text.{Text}
 use Rattle.eb_grammar.specs.declared.class.Class.TheVariants as class
 use Rattle.eb_grammar.specs.Classes.{is_in, byte}
-use Rattle.eb_grammar.specs.Laws.{Takes}
 use Rattle.eb_grammar.specs.Params.{backslash}
-use Rattle.eb_grammar.specs.Peg.{Spot, No, Deep, Rule, Outcome, ◌>>=◌, ◌<$>◌, ◌</>◌, pure, and_then, either, gather_from, single, lit}
+use Rattle.eb_grammar.specs.Peg.{Spot, No, Deep, Rule, Outcome, ◌<$>◌, pure, and_then, either, gather_from, single, lit}
 use Rattle.eb_grammar.specs.Words.{back_part, unescaped}
 use Rattle.eb_grammar.proofs.Shorter.{never, same_left, word-t, byte-t}
 

@@ -4,7 +4,7 @@ use Rattle.eb_syntax.specs.declared.tree.Dollar.TheVariants as d
 use Rattle.eb_grammar.specs.declared.class.Class.TheVariants as class
 use Rattle.eb_grammar.specs.Grammar.{inside}
 use Rattle.eb_grammar.specs.Params.{param}
-use Rattle.eb_grammar.specs.Peg.{Spot, ◌>>=◌, ◌<$>◌, ◌</>◌, pure}
+use Rattle.eb_grammar.specs.Peg.{Spot, ◌<$>◌, ◌</>◌}
 use Rattle.eb_grammar.specs.Rules.{Rules}
 use Rattle.eb_grammar.specs.Words.{dollar}
 use Rattle.bash_lexer.specs.At.{arith_expansion_at, dollar_byte, dollar_name, param_expansion_at, param_inside, substitution_at}

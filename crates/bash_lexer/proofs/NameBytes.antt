@@ -1,5 +1,5 @@
 -- A byte of a name stands for itself in a word: nothing else begins with one.
-use Rattle.std.proofs.Common.{◌≡◌, ℕ, Bool, true, false, List, [], ◌∷◌, ◌==◌, ◌||◌, ◌&&◌, Option, Some, None, Ok, Err, ap, ◌∙◌, sym, refl, nat_eq, arith, if◌then◌else◌}
+use Rattle.std.proofs.Common.{◌≡◌, ℕ, Bool, true, false, List, [], ◌∷◌, ◌==◌, Option, Some, None, Ok, Err, ap, ◌∙◌, refl, nat_eq, arith, if◌then◌else◌}
 use Rattle.std.proofs.lemmas.Bool.Decides.{nat_tests}
 use Rattle.std.specs.Prelude.{slice_get}
 use Rattle.std.specs.List.{starts_with}
@@ -9,12 +9,10 @@ use Rattle.eb_syntax.specs.declared.tree.Piece.TheVariants as p
 use Rattle.eb_grammar.specs.declared.class.Class.TheVariants as class
 use Rattle.eb_grammar.specs.Classes.{is_in, byte}
 use Rattle.eb_grammar.specs.Grammar.{inside}
-use Rattle.eb_grammar.specs.Names.{name}
-use Rattle.eb_grammar.specs.Peg.{Spot, Stop, No, Deep, Rule, Outcome, ◌>>=◌, ◌>>◌, ◌<$>◌, ◌</>◌, pure, and_then, either, lit, word_of, sees, first, byte_of, byte_in, taken}
+use Rattle.eb_grammar.specs.Peg.{Spot, No, Outcome, pure, and_then, word_of, sees, first, byte_of, byte_in, taken}
 use Rattle.eb_grammar.specs.Words.{continuation, escaped, single_quoted, ansi_quoted, double, double_quoted, dollar, backquoted, process_start, process, group_start, group, plain, piece, backquotes, quotes, arith_dollar, substitution}
 use Rattle.bash_cursor.proofs.Nesting.{nest_no, nest_first_err}
 use Rattle.eb_grammar.specs.Params.{param}
-use Rattle.eb_grammar.specs.Peg.{nest}
 use Rattle.eb_grammar.proofs.Shorter.{never}
 
 -- two bytes that a test tells apart differ

@@ -1,5 +1,5 @@
 -- What a parameter in braces is read as, where what its forms begin with is read once.
-use Rattle.std.proofs.Common.{◌≡◌, ℕ, Bool, Option, Ok, Err, ap, ◌∙◌, sym, refl}
+use Rattle.std.proofs.Common.{◌≡◌, Bool, Option, Ok, Err, ap, ◌∙◌, sym, refl}
 use Rattle.eb_syntax.specs.declared.tree.Op.{Op}
 use Rattle.eb_syntax.specs.declared.tree.Param.{Param}
 use Rattle.eb_syntax.specs.declared.tree.Param.TheVariants as p

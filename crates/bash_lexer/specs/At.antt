@@ -1,15 +1,13 @@
 -- The rules that stand inside a nesting, by how many nestings may still be opened, and the nestings that they open.
-use Rattle.std.specs.Prelude.{ℕ, Bool, false, Option, Result}
-use denote.Ref.{MutBor}
+use Rattle.std.specs.Prelude.{ℕ, Bool, false, Option}
 use Rattle.eb_syntax.specs.declared.tree.Items.{Items}
 use Rattle.eb_syntax.specs.declared.tree.Op.{Op}
 use Rattle.eb_syntax.specs.declared.tree.Param.{Param}
 use Rattle.eb_syntax.specs.declared.tree.Param.TheVariants as p
 use Rattle.eb_syntax.specs.declared.tree.Piece.{Piece}
-use Rattle.eb_syntax.specs.declared.tree.QPiece.{QPiece}
 use Rattle.eb_syntax.specs.declared.tree.Dollar.{Dollar}
 use Rattle.eb_syntax.specs.declared.tree.PW.{PW}
-use Rattle.eb_syntax.specs.Tree.{ArithText, Back, Body, DQ, Sub}
+use Rattle.eb_syntax.specs.Tree.{ArithText, Back, DQ}
 use Rattle.eb_bytes.specs.Text.{Text}
 use Rattle.eb_grammar.specs.declared.class.Class.{Class}
 use Rattle.eb_grammar.specs.declared.class.Class.TheVariants as class
@@ -18,26 +16,10 @@ use Rattle.eb_grammar.specs.Peg.{Rule, ◌>>◌, ◌>>=◌, ◌<$>◌, ◌</>◌
 use Rattle.eb_grammar.specs.Names.{name}
 use Rattle.eb_grammar.specs.Rules.{Rules}
 use Rattle.eb_grammar.specs.Grammar.{inside, rules_in}
-use Rattle.eb_grammar.specs.ArithText.{arith, arith_part, arith_piece, parentheses}
-use Rattle.eb_grammar.specs.Commands.{body, items}
-use Rattle.eb_grammar.specs.Params.{change, param, ref, subscript, text_piece}
-use Rattle.eb_grammar.specs.Words.{arith_dollar, backquoted, dollar, double, double_quoted, group, group_start, piece, process, process_start, quoted_piece, substitution}
+use Rattle.eb_grammar.specs.ArithText.{arith, arith_piece, parentheses}
+use Rattle.eb_grammar.specs.Params.{change, param, ref, text_piece}
+use Rattle.eb_grammar.specs.Words.{arith_dollar, backquoted, dollar, double, double_quoted, group, group_start, process, process_start, substitution}
 use Rattle.eb_syntax.specs.declared.tree.AP.{AP}
-use Rattle.bash_cursor.specs.declared.error.LexErr.{LexErr}
-use Rattle.bash_cursor.specs.Reads.{ReadsBelow}
-use Rattle.bash_cursor.specs.Seen.{Seen}
-
-abbrev pub items_at : ℕ → Rule Items
-items_at n = items (inside n)
-
-abbrev pub body_at : ℕ → Rule Body
-body_at n = body (inside n)
-
-abbrev pub piece_at : ℕ → Rule Piece
-piece_at n = piece (inside n)
-
-abbrev pub quoted_at : ℕ → Rule QPiece
-quoted_at n = quoted_piece (inside n)
 
 abbrev pub double_quoted_at : ℕ → Rule DQ
 double_quoted_at n = double_quoted (inside n)
@@ -51,17 +33,11 @@ back_at n = backquoted (inside n)
 abbrev pub dollar_at : Bool → ℕ → Rule Dollar
 dollar_at quoted n = dollar (inside n) quoted
 
-abbrev pub subscript_at : ℕ → Rule Sub
-subscript_at n = subscript (inside n)
-
 abbrev pub arith_at : Bool → ℕ → Rule ArithText
 arith_at quoted n = arith (inside n) quoted
 
 abbrev pub arith_piece_at : Bool → ℕ → Rule AP
 arith_piece_at quoted n = arith_piece (inside n) quoted
-
-abbrev pub arith_part_at : ℕ → Rule ArithText
-arith_part_at n = arith_part (inside n)
 
 abbrev pub param_at : Bool → ℕ → Rule Param
 param_at quoted n = param (rules_in (inside n)) quoted
@@ -142,9 +118,3 @@ marked_param inside quoted = do
   lit "${!"
   whose ← ref inside
   (λ how. p.Names whose how) <$> names_end </> (λ how. p.Indirect whose how) <$> change_end inside quoted
-
--- ---- readers that were handed over
-
--- one reads a Dollar inside double quotes and here-documents, and outside
-abbrev pub DollarsBelow : ℕ → (Bool → MutBor Seen → Type 0) → (Bool → MutBor Seen → Result Dollar LexErr → MutBor Seen → Type 0) → Type 0
-DollarsBelow room pre post = (quoted : Bool) → ReadsBelow (dollar_at quoted) room (pre quoted) (post quoted)

@@ -2,13 +2,14 @@
 
 ghost use Rattle.std.specs.Prelude.{◌+◌, Bool, false};
 ghost use Rattle.bash_cursor.specs.Reads.{Reads, ReadsBelow};
-ghost use Rattle.bash_lexer.specs.At.{arith_at, arith_part_at, arith_part_piece, arith_piece_at, back_at, dollar_at, parentheses_at};
+ghost use Rattle.bash_lexer.specs.At.{arith_at, arith_part_piece, arith_piece_at, back_at, dollar_at, parentheses_at};
+ghost use Rattle.bash_reading.specs.At.{arith_part_at};
 ghost use Rattle.eb_grammar.specs.ArithText as arith_text;
 ghost use Rattle.eb_grammar.specs.Grammar.{inside, rules_in};
 ghost use Rattle.eb_grammar.specs.Peg.{many};
 
-use crate::lists::{put, shared};
 use bash_cursor::{Cursor, LexErr, backslash, lone, or_back};
+use bash_reading::{attempt, must, put, repeat, shared};
 use eb_grammar::Class;
 use eb_syntax::{AP, ArithText, Back, Dollar};
 use sqlite_items::Items as List;

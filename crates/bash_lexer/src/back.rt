@@ -2,12 +2,14 @@
 
 ghost use Rattle.std.specs.Prelude.{◌≡◌, ◌+◌, ◌≤◌, ◌++◌, ◌∷◌, [], length, IfOk, MatchResult};
 ghost use Rattle.bash_cursor.specs.Reads.{Reads, ReadsBelow};
-ghost use Rattle.bash_lexer.specs.At.{back_at, items_at};
+ghost use Rattle.bash_lexer.specs.At.{back_at};
+ghost use Rattle.bash_reading.specs.At.{items_at};
 ghost use Rattle.eb_grammar.specs.Grammar.{inside, rules_in};
 ghost use Rattle.eb_grammar.specs.Peg.{gather, within};
 ghost use Rattle.eb_grammar.specs.Words as words;
 
 use bash_cursor::{Cursor, LexErr, backslash, is_in, or_back, or_remember};
+use bash_reading::must;
 use eb_bytes::Bytes;
 use eb_grammar::Class;
 use eb_syntax::{Back, Items};

@@ -2,7 +2,8 @@
 
 ghost use Rattle.std.specs.Prelude.{◌+◌, Bool, true};
 ghost use Rattle.bash_cursor.specs.Reads.{Finds, Reads, ReadsBelow};
-ghost use Rattle.bash_lexer.specs.At.{back_at, dollar_at, piece_at, transform};
+ghost use Rattle.bash_lexer.specs.At.{back_at, dollar_at, transform};
+ghost use Rattle.bash_reading.specs.At.{piece_at};
 ghost use Rattle.eb_grammar.specs.Grammar.{inside, rules_in};
 ghost use Rattle.eb_grammar.specs.Params as params;
 ghost use Rattle.eb_grammar.specs.Peg.{many};
@@ -10,6 +11,7 @@ ghost use Rattle.eb_grammar.specs.Peg.{many};
 use crate::slices::slice;
 use crate::texts::{pattern, quoted_text, text};
 use bash_cursor::{Cursor, LexErr, case_op, or_back, replace_op, strip_op, value_op};
+use bash_reading::{attempt, attempt_or_back};
 use eb_grammar::Class;
 use eb_syntax::{Back, Dollar, Op, PW, Piece};
 use shared::Shared;

@@ -3,12 +3,13 @@
 
 ghost use Rattle.std.specs.Prelude.{◌+◌, Bool};
 ghost use Rattle.bash_cursor.specs.Reads.{Finds, Reads, ReadsBelow};
-ghost use Rattle.bash_lexer.specs.At.{arith_at, arith_expansion_at, dollar_at, dollar_byte, dollar_name, items_at, param_at, param_expansion_at, substitution_at};
+ghost use Rattle.bash_lexer.specs.At.{arith_at, arith_expansion_at, dollar_at, dollar_byte, dollar_name, param_at, param_expansion_at, substitution_at};
+ghost use Rattle.bash_reading.specs.At.{items_at};
 ghost use Rattle.eb_grammar.specs.Grammar.{inside, rules_in};
 ghost use Rattle.eb_grammar.specs.Words as words;
 
-use crate::lists::shared;
 use bash_cursor::{Cursor, LexErr, name, or_back, or_remember};
+use bash_reading::{attempt, must, shared};
 use eb_bytes::Bytes;
 use eb_grammar::Class;
 use eb_syntax::{ArithText, Dollar, Items, Param};

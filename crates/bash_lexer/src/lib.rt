@@ -2,60 +2,6 @@
 //! parameters. What stands inside a nesting is read by what is handed over.
 #![tactic(auto)]
 
-// What was read, `None` where there is no reading. Any other error is handed on: nothing may have been taken before.
-macro_rules! attempt {
-    ($read:expr) => {
-        match $read {
-            Ok(read) => Some(read),
-            Err(LexErr::NoParse) => None,
-            Err(error) => return Err(error),
-        }
-    };
-}
-
-// The same after something was taken, which any other error gives back.
-macro_rules! attempt_or_back {
-    ($cursor:expr, $start:expr, $read:expr) => {
-        match $read {
-            Ok(read) => Some(read),
-            Err(LexErr::NoParse) => None,
-            Err(error) => {
-                $cursor.back_to($start);
-                return Err(error);
-            }
-        }
-    };
-}
-
-// Gives back what was taken where something that has to stand next does not.
-macro_rules! must {
-    ($cursor:expr, $start:expr, $stands:expr) => {
-        if !$stands {
-            $cursor.back_to($start);
-            return Err(LexErr::NoParse);
-        }
-    };
-}
-
-// All that a rule reads, turn by turn, until it has no reading.
-macro_rules! repeat {
-    ($cursor:expr, $read:expr) => {{
-        let start = $cursor.here();
-        let mut found = List::new($cursor.alloc());
-        for _turn in 0..$cursor.left() {
-            match $read {
-                Ok(node) => or_back!($cursor, start, put(&mut found, node)),
-                Err(LexErr::NoParse) => return Ok(found),
-                Err(error) => {
-                    $cursor.back_to(start);
-                    return Err(error);
-                }
-            }
-        }
-        Ok(found)
-    }};
-}
-
 // What a rule reads inside the nesting that it opens with these bytes. Where the cursor knows that the nesting has no
 // reading here, it is not read again.
 macro_rules! nested {
@@ -75,7 +21,6 @@ mod arith_texts;
 mod back;
 mod change;
 mod dollars;
-mod lists;
 mod params;
 mod pieces;
 mod quotes;

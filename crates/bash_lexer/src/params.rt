@@ -2,12 +2,14 @@
 
 ghost use Rattle.std.specs.Prelude.{◌+◌, Bool, true};
 ghost use Rattle.bash_cursor.specs.Reads.{Finds, Reads, ReadsBelow};
-ghost use Rattle.bash_lexer.specs.At.{back_at, change_end, dollar_at, marked_param, names_end, param_at, piece_at, subscript_at};
+ghost use Rattle.bash_lexer.specs.At.{back_at, change_end, dollar_at, marked_param, names_end, param_at};
+ghost use Rattle.bash_reading.specs.At.{piece_at, subscript_at};
 ghost use Rattle.eb_grammar.specs.Grammar.{inside, rules_in};
 ghost use Rattle.eb_grammar.specs.Params as params;
 
 use crate::change::change_of;
 use bash_cursor::{Cursor, LexErr, digits, name, or_back};
+use bash_reading::{attempt, attempt_or_back, must};
 use eb_grammar::Class;
 use eb_syntax::{Back, Dollar, Op, Param, Piece, Ref, Sub};
 

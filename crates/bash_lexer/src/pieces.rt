@@ -2,17 +2,18 @@
 
 ghost use Rattle.std.specs.Prelude.{◌+◌, false, true};
 ghost use Rattle.bash_cursor.specs.Reads.{Finds, Reads, ReadsBelow};
-ghost use Rattle.bash_lexer.specs.At.{back_at, body_at, dollar_at, group_at, piece_at, process_at};
+ghost use Rattle.bash_lexer.specs.At.{back_at, dollar_at, group_at, process_at};
+ghost use Rattle.bash_reading.specs.At.{body_at, piece_at};
 ghost use Rattle.eb_grammar.specs.Grammar.{inside, rules_in};
 ghost use Rattle.eb_grammar.specs.Peg.{many};
 ghost use Rattle.eb_grammar.specs.Words as words;
 
-use crate::lists::{put, shared};
 use crate::quotes::double_of;
 use bash_cursor::{
     Cursor, LexErr, ansi_quoted, continuation, escaped, group_start, lone, or_back, or_remember,
     process_start, single_quoted,
 };
+use bash_reading::{attempt, must, put, repeat, shared};
 use eb_bytes::Bytes;
 use eb_grammar::Class;
 use eb_syntax::{Back, Body, Dollar, GroupPart, Piece, Plain};

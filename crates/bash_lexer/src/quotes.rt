@@ -2,13 +2,14 @@
 
 ghost use Rattle.std.specs.Prelude.{◌+◌, true};
 ghost use Rattle.bash_cursor.specs.Reads.{Finds, Reads, ReadsBelow};
-ghost use Rattle.bash_lexer.specs.At.{back_at, dollar_at, double_at, double_quoted_at, escaped_in_quotes, quoted_at};
+ghost use Rattle.bash_lexer.specs.At.{back_at, dollar_at, double_at, double_quoted_at, escaped_in_quotes};
+ghost use Rattle.bash_reading.specs.At.{quoted_at};
 ghost use Rattle.eb_grammar.specs.Grammar.{inside, rules_in};
 ghost use Rattle.eb_grammar.specs.Peg.{many};
 ghost use Rattle.eb_grammar.specs.Words as words;
 
-use crate::lists::{put, shared};
 use bash_cursor::{Cursor, LexErr, continuation, lone, or_back, or_remember};
+use bash_reading::{attempt, must, put, repeat, shared};
 use eb_grammar::Class;
 use eb_syntax::{Back, DQ, Dollar, Piece, QPiece};
 use grammar_laws::Nesting;

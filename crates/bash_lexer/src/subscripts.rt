@@ -2,13 +2,13 @@
 
 ghost use Rattle.std.specs.Prelude.{◌+◌};
 ghost use Rattle.bash_cursor.specs.Reads.{Reads, ReadsBelow};
-ghost use Rattle.bash_lexer.specs.At.{piece_at, subscript_at};
+ghost use Rattle.bash_reading.specs.At.{piece_at, subscript_at};
 ghost use Rattle.eb_grammar.specs.Grammar.{inside, rules_in};
 ghost use Rattle.eb_grammar.specs.Params as params;
 ghost use Rattle.eb_grammar.specs.Peg.{many};
 
-use crate::lists::{put, shared};
 use bash_cursor::{Cursor, LexErr, or_back, or_remember};
+use bash_reading::{attempt, must, put, repeat, shared};
 use eb_grammar::Class;
 use eb_syntax::{Piece, Sub, SubPart};
 use grammar_laws::Nesting;

@@ -2,14 +2,15 @@
 
 ghost use Rattle.std.specs.Prelude.{◌+◌, Bool, true};
 ghost use Rattle.bash_cursor.specs.Reads.{Reads, ReadsBelow};
-ghost use Rattle.bash_lexer.specs.At.{back_at, dollar_at, pattern_piece, piece_at};
+ghost use Rattle.bash_lexer.specs.At.{back_at, dollar_at, pattern_piece};
+ghost use Rattle.bash_reading.specs.At.{piece_at};
 ghost use Rattle.eb_grammar.specs.Grammar.{inside, rules_in};
 ghost use Rattle.eb_grammar.specs.Params as params;
 ghost use Rattle.eb_grammar.specs.Peg.{many};
 
-use crate::lists::{put, shared};
 use crate::quotes::{double_quoted_of, quoted_piece_of};
 use bash_cursor::{Cursor, LexErr, or_back};
+use bash_reading::{attempt, put, repeat, shared};
 use eb_grammar::Class;
 use eb_syntax::{Back, Dollar, PW, Piece};
 use shared::Shared;

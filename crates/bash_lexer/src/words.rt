@@ -2,14 +2,14 @@
 
 ghost use Rattle.std.specs.Prelude.{◌≡◌, ◌+◌, ◌∷◌, MatchResult};
 ghost use Rattle.bash_cursor.specs.Reads.{Reads, ReadsBelow};
-ghost use Rattle.bash_lexer.specs.At.{piece_at};
+ghost use Rattle.bash_reading.specs.At.{piece_at};
 ghost use Rattle.eb_grammar.specs.Grammar.{inside};
 ghost use Rattle.eb_grammar.specs.Peg.{many};
 ghost use Rattle.eb_grammar.specs.Words as words;
 ghost use Rattle.eb_syntax.specs.Tree.{word_of_pieces};
 
-use crate::lists::put;
 use bash_cursor::{Cursor, LexErr, or_back};
+use bash_reading::{put, repeat};
 use eb_syntax::{Piece, Word};
 use sqlite_items::Items as List;
 use std::alloc::Global;

@@ -5,10 +5,10 @@ use Rattle.eb_syntax.specs.declared.tree.Piece.TheVariants as p
 use Rattle.eb_syntax.specs.declared.tree.QPiece.{QPiece}
 use Rattle.eb_grammar.specs.declared.class.Class.TheVariants as class
 use Rattle.eb_grammar.specs.Classes.{byte}
-use Rattle.eb_grammar.specs.Grammar.{inside, rules_in}
+use Rattle.eb_grammar.specs.Grammar.{inside}
 use Rattle.eb_grammar.specs.AnsiText.{ansi_text}
 use Rattle.eb_grammar.specs.HereDocuments.{bare, quoted, unquoted_double, unquoted_group, unquoted_quotes}
-use Rattle.eb_grammar.specs.Peg.{Rule, ◌>>=◌, ◌>>◌, ◌<$>◌, ◌</>◌, pure, lit, nest, with_text}
+use Rattle.eb_grammar.specs.Peg.{Rule, ◌>>◌, ◌<$>◌, ◌</>◌, lit, nest, with_text}
 use Rattle.eb_grammar.specs.Rules.{Unquoted}
 use Rattle.eb_grammar.specs.Words.{ansi_quoted, escaped, group_start, piece, single_quoted}
 use Rattle.eb_bytes.specs.Text.{Text}

@@ -1,4 +1,3 @@
 pub mod At
 pub mod Delimiters
-pub mod Marks
 pub mod Parts

@@ -2,14 +2,15 @@
 
 ghost use Rattle.std.specs.Prelude.{◌+◌};
 ghost use Rattle.bash_cursor.specs.Reads.{Reads, ReadsBelow, ReadsMarks};
-ghost use Rattle.bash_redirs.specs.At.{lines_at, piece_at, subscript_at, word_at};
-ghost use Rattle.bash_redirs.specs.Marks.{ReadsMarksBelow};
+ghost use Rattle.bash_reading.specs.At.{lines_at, piece_at, subscript_at, word_at};
+ghost use Rattle.bash_reading.specs.Marks.{ReadsMarksBelow};
 ghost use Rattle.eb_grammar.specs.Grammar.{inside, rules_in};
 ghost use Rattle.eb_grammar.specs.Peg.{followed_by, lit, many, nest};
 ghost use Rattle.eb_grammar.specs.Redirections as redirections;
 
-use crate::lists::{put, word_of};
+use crate::lists::word_of;
 use bash_cursor::{Cursor, LexErr, name, or_back};
+use bash_reading::{attempt, attempt_or_back, must, or_restore, put, repeat, repeat_marks};
 use eb_syntax::{Assign, Assigned, Piece, Sub, Word};
 use sqlite_items::Items as List;
 

@@ -13,6 +13,7 @@ use crate::pairs::{Pairs, put_pair};
 use crate::unquoted::Unquoted;
 use crate::unquoted_pieces::group_of;
 use bash_cursor::{Cursor, LexErr, group_start, or_back};
+use bash_reading::{attempt, must};
 use eb_syntax::{GroupPart, Piece};
 
 // A piece, a blank or a bar, with its bytes in the delimiter.

@@ -2,7 +2,7 @@
 
 ghost use Rattle.std.specs.Prelude.{◌+◌};
 ghost use Rattle.bash_cursor.specs.Reads.{Finds, Reads, ReadsBelow};
-ghost use Rattle.bash_redirs.specs.At.{quoted_at};
+ghost use Rattle.bash_reading.specs.At.{quoted_at};
 ghost use Rattle.bash_redirs.specs.Delimiters.{escaped_in_quotes, quotes_at};
 ghost use Rattle.eb_grammar.specs.Grammar.{inside, rules_in};
 ghost use Rattle.eb_grammar.specs.HereDocuments as here;
@@ -13,6 +13,7 @@ use crate::pairs::{Pairs, put_pair};
 use crate::unquoted::Unquoted;
 use crate::unquoted_pieces::double_of;
 use bash_cursor::{Cursor, LexErr, continuation, or_back};
+use bash_reading::must;
 use eb_bytes::Bytes;
 use eb_grammar::Class;
 use eb_syntax::{Piece, QPiece};

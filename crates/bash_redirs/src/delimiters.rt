@@ -3,7 +3,8 @@
 
 ghost use Rattle.std.specs.Prelude.{◌+◌, ◌<◌};
 ghost use Rattle.bash_cursor.specs.Reads.{Reads, ReadsBelow};
-ghost use Rattle.bash_redirs.specs.At.{piece_at, quoted_at, unquoted_at};
+ghost use Rattle.bash_redirs.specs.At.{unquoted_at};
+ghost use Rattle.bash_reading.specs.At.{piece_at, quoted_at};
 ghost use Rattle.bash_redirs.specs.Delimiters.{ansi_told, bare_at, escaped_told, grouped_told, nested_told, quoted_told, single_told};
 ghost use Rattle.eb_grammar.specs.Grammar.{inside};
 ghost use Rattle.eb_grammar.specs.HereDocuments as here;
@@ -16,6 +17,7 @@ use crate::pairs::{Pairs, put_pair};
 use crate::unquoted::Unquoted;
 use crate::unquoted_pieces::{ansi_of, single_of, word_told};
 use bash_cursor::{Cursor, LexErr, ansi_quoted, continuation, escaped, or_back, single_quoted};
+use bash_reading::attempt;
 use eb_bytes::Bytes;
 use eb_syntax::{Piece, QPiece, Word};
 

@@ -2,14 +2,14 @@
 
 ghost use Rattle.std.specs.Prelude.{◌≡◌, ◌≤◌, ◌+◌, length, IfOk};
 ghost use Rattle.bash_cursor.specs.Reads.{Eats, Reads, ReadsBelow, ReadsMarks};
-ghost use Rattle.bash_redirs.specs.At.{lines_at, quoted_at};
+ghost use Rattle.bash_reading.specs.At.{lines_at, quoted_at};
 ghost use Rattle.bash_redirs.specs.Parts.{backslash_before_quote, body_of, line_part, parts_of};
 ghost use Rattle.eb_grammar.specs.Grammar.{inside};
 ghost use Rattle.eb_grammar.specs.HereDocuments as here;
 ghost use Rattle.eb_grammar.specs.Peg.{many, within};
 
-use crate::lists::{put, shared};
 use bash_cursor::{Cursor, HereMark, LexErr, here_text, or_back};
+use bash_reading::{attempt, or_restore, put, repeat, shared};
 use eb_bytes::Bytes;
 use eb_syntax::{HereBody, HereText, QPiece};
 use shared::Shared;

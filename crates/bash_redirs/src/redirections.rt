@@ -2,7 +2,7 @@
 
 ghost use Rattle.std.specs.Prelude.{◌≡◌, ◌+◌};
 ghost use Rattle.bash_cursor.specs.Reads.{Reads, ReadsBelow, ReadsMarks};
-ghost use Rattle.bash_redirs.specs.At.{piece_at, quoted_at, word_at};
+ghost use Rattle.bash_reading.specs.At.{piece_at, quoted_at, word_at};
 ghost use Rattle.bash_redirs.specs.Parts as parts;
 ghost use Rattle.eb_grammar.specs.Grammar.{inside};
 ghost use Rattle.eb_grammar.specs.Redirections as redirections;
@@ -10,6 +10,7 @@ ghost use Rattle.eb_grammar.specs.Redirections as redirections;
 use crate::delimiters::delimiter_word;
 use crate::lists::copied;
 use bash_cursor::{Cursor, HereMark, LexErr, both_op, file_op, here_op, or_back, word_op};
+use bash_reading::{attempt_or_back, must};
 use eb_grammar::Class;
 use eb_syntax::{HereOp, Piece, QPiece, Redir, Word};
 

@@ -2,14 +2,14 @@
 
 ghost use Rattle.std.specs.Prelude.{◌+◌, ◌<◌};
 ghost use Rattle.bash_cursor.specs.Reads.{Reads, ReadsBelow};
-ghost use Rattle.bash_redirs.specs.At.{piece_at, regex_at};
+ghost use Rattle.bash_reading.specs.At.{piece_at, regex_at};
 ghost use Rattle.bash_redirs.specs.Parts.{regex_group_at};
 ghost use Rattle.eb_grammar.specs.Conditions as conditions;
 ghost use Rattle.eb_grammar.specs.Grammar.{inside, rules_in};
 ghost use Rattle.eb_grammar.specs.Peg.{many};
 
-use crate::lists::{list_with, put};
 use bash_cursor::{Cursor, LexErr, or_back, or_remember};
+use bash_reading::{attempt, list_with, must, put, repeat};
 use eb_syntax::{Piece, RIn, Regex, RegexPart};
 use grammar_laws::Nesting;
 use sqlite_items::Items as List;

@@ -7,10 +7,11 @@ ghost use Rattle.eb_grammar.specs.HereDocuments as here;
 ghost use Rattle.eb_syntax.specs.Tree.{word_of_pieces};
 ghost use Rattle.std.specs.List.{flat_map};
 
-use crate::lists::{copied, list_with, shared, word_of};
+use crate::lists::{copied, word_of};
 use crate::pairs::Pairs;
 use crate::unquoted::Unquoted;
 use bash_cursor::LexErr;
+use bash_reading::{list_with, shared};
 use eb_bytes::Bytes;
 use eb_grammar::ansi_text;
 use eb_syntax::{GroupPart, Piece, QPiece, Word};

@@ -2,7 +2,8 @@
 
 ghost use Rattle.std.specs.Prelude.{◌+◌, ◌<◌, Bool, false};
 ghost use Rattle.bash_cursor.specs.Reads.{Reads, ReadsBelow};
-ghost use Rattle.bash_lexer.specs.At.{arith_at, arith_part_at, back_at, body_at, dollar_at, items_at, piece_at, quoted_at, subscript_at};
+ghost use Rattle.bash_lexer.specs.At.{arith_at, back_at, dollar_at};
+ghost use Rattle.bash_reading.specs.At.{arith_part_at, body_at, items_at, piece_at, quoted_at, subscript_at};
 ghost use Rattle.eb_grammar.specs.Grammar.{inside};
 ghost use Rattle.eb_grammar.specs.Words as words;
 

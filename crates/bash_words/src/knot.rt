@@ -3,7 +3,8 @@
 
 ghost use Rattle.std.specs.Prelude.{◌+◌, ◌<◌, Bool, true, false};
 ghost use Rattle.bash_cursor.specs.Reads.{Reads, ReadsBelow};
-ghost use Rattle.bash_lexer.specs.At.{arith_at, back_at, body_at, dollar_at, items_at, param_at, piece_at, subscript_at};
+ghost use Rattle.bash_lexer.specs.At.{arith_at, back_at, dollar_at, param_at};
+ghost use Rattle.bash_reading.specs.At.{body_at, items_at, piece_at, subscript_at};
 
 use bash_cursor::{Cursor, LexErr};
 use bash_lexer::{arith_of, back_of, dollar_of, param_of, piece_of, subscript_of};

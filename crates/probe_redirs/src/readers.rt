@@ -2,8 +2,8 @@
 //! which their rules leave free.
 
 ghost use Rattle.bash_cursor.specs.Reads.{Reads, ReadsMarks};
-ghost use Rattle.bash_lexer.specs.At.{body_at, items_at};
-ghost use Rattle.bash_redirs.specs.At.{lines_at, piece_at, quoted_at, subscript_at, word_at};
+ghost use Rattle.bash_reading.specs.At.{body_at, items_at};
+ghost use Rattle.bash_reading.specs.At.{lines_at, piece_at, quoted_at, subscript_at, word_at};
 
 use bash_cursor::{Cursor, LexErr};
 use eb_syntax::{Body, Items, Piece, QPiece, Sub, Word};

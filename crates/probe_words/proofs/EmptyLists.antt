@@ -1,5 +1,5 @@
 -- Where Items takes nothing: at the end of the text, and before a parenthesis that closes.
-use Rattle.std.proofs.Common.{◌≡◌, ℕ, zero, suc, Bool, true, false, List, [], ◌∷◌, ◌&&◌, Ok, refl, sym, ◌∙◌, ap, nat_eq, arith}
+use Rattle.std.proofs.Common.{◌≡◌, ℕ, zero, suc, Bool, true, [], ◌∷◌, ◌&&◌, Ok, refl, ◌∙◌, ap, nat_eq, arith}
 use Rattle.std.proofs.lemmas.Bool.Decides.{nat_tests}
 use Rattle.std.specs.List.{starts_with}
 use Rattle.eb_bytes.specs.Text.{Text}

@@ -2,7 +2,7 @@
 
 ghost use Rattle.std.specs.Prelude.{◌≡◌, [], MatchResult};
 ghost use Rattle.bash_cursor.specs.Reads.{Reads};
-ghost use Rattle.bash_lexer.specs.At.{body_at, items_at};
+ghost use Rattle.bash_reading.specs.At.{body_at, items_at};
 ghost use Rattle.eb_grammar.specs.Commands.{items_of};
 
 use bash_cursor::{Cursor, LexErr};

@@ -1,6 +1,6 @@
 ghost use Rattle.std.specs.Prelude.{◌<◌, length};
 ghost use Rattle.bash_cursor.specs.Reads.{Reads};
-ghost use Rattle.bash_lexer.specs.At.{body_at, items_at};
+ghost use Rattle.bash_reading.specs.At.{body_at, items_at};
 
 use crate::lists::{no_body, no_items};
 use bash_cursor::{Cursor, LexErr};

@@ -1,5 +1,5 @@
 use Rattle.std.proofs.Common.{◌≡◌, ◌-◌}
-use Rattle.bash_lexer.specs.At.{quoted_at}
+use Rattle.bash_reading.specs.At.{quoted_at}
 use Rattle.eb_grammar.specs.Peg.{single, ◌<$>◌, many, gather_from}
 use Rattle.bash_cursor.specs.Reads.{StaysOn, KeepsMarks}
 use Rattle.bash_lexer.proofs.quotes.quoted_pieces.Given as goal

@@ -1,5 +1,5 @@
 use Rattle.std.proofs.Common.{◌≡◌, ◌-◌}
-use Rattle.bash_redirs.specs.At.{lines_at, word_at}
+use Rattle.bash_reading.specs.At.{lines_at, word_at}
 use Rattle.eb_grammar.specs.Peg.{single, ◌<$>◌, followed_by, many, gather_from}
 use Rattle.bash_cursor.specs.Reads.{StaysOn}
 use Rattle.bash_redirs.proofs.assignments.array_words.Given as goal
