@@ -1,10 +1,4 @@
 -- Every expansion closes what it opens, where each substitution does.
-use Rattle.eb_bytes.specs.Text.{Text}
-use Rattle.eb_syntax.specs.Tree.{ArithText, HereText, Sub}
-use Rattle.eb_syntax.specs.declared.tree.Items.{Items}
-use Rattle.std.specs.Prelude.{List}
-use Rattle.eb_syntax.specs.declared.tree.Word.{Word}
-use Rattle.shell_state.specs.Outcome.{Doing}
 use Rattle.word_meaning.specs.Laws.{ExpansionsClose, TextsClose}
 use Rattle.word_meaning.proofs.Respected.{Closing, closing}
 use Rattle.word_meaning.proofs.WordsKept as words

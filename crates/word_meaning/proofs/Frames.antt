@@ -9,7 +9,7 @@ use Rattle.shell_vars.specs.Store.{Store, admitted, bind_at, binding_at, call_de
 use Rattle.shell_vars.specs.Value.{appended, assigned, checked, element_set}
 use Rattle.shell_vars.specs.declared.binding.Binding.{Binding}
 use Rattle.shell_vars.specs.declared.error.VarErr.{VarErr}
-use Rattle.shell_vars.specs.declared.error.VarErr.TheVariants.{LocalOutside, Readonly, TotalSize}
+use Rattle.shell_vars.specs.declared.error.VarErr.TheVariants.{Readonly, TotalSize}
 use Rattle.shell_vars.specs.declared.value.Value.{Value}
 
 -- of a change that is not refused

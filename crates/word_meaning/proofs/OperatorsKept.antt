@@ -1,5 +1,5 @@
 -- Operators, once their words are expanded: what is respected holds of them.
-use Rattle.std.proofs.Common.{ℕ, List, [], ◌∷◌, ◌++◌, Bool, Option, Some, None, length}
+use Rattle.std.proofs.Common.{ℕ, List, [], ◌∷◌, Bool, Option, Some, None, length}
 use Rattle.std.specs.Prelude.{ℤ, Result, Ok, Err}
 use Rattle.bash_params.specs.Cost.{match_cost, replace_cost}
 use Rattle.bash_params.specs.declared.error.ParamErr.{ParamErr}

@@ -1,5 +1,5 @@
 -- The parts of a word: what is respected holds of them, where it holds of two ways to run substitutions.
-use Rattle.std.proofs.Common.{ℕ, zero, suc, List, [], ◌∷◌, ◌++◌, Bool, true, false, Option, Some, None}
+use Rattle.std.proofs.Common.{ℕ, zero, suc, List, [], ◌∷◌, Bool, true, false, Option, Some, None}
 use Rattle.eb_bytes.specs.Text.{Text}
 use Rattle.eb_grammar.specs.AnsiText.{has_refused_escape}
 use Rattle.eb_grammar.specs.Grammar.{whole_ref}

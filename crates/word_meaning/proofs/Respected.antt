@@ -8,7 +8,6 @@ use Rattle.bash_arith.specs.Value.{arithmetic}
 use Rattle.bash_assign.specs.Assignments.{changed}
 use Rattle.bash_cond.specs.Arithmetic.{ends_as, evaluates, variables_of}
 use Rattle.eb_bytes.specs.Text.{Text}
-use Rattle.shell_state.specs.Faults.{variable_fault}
 use Rattle.shell_state.specs.Host.{Later}
 use Rattle.shell_state.specs.Outcome.{Outcome, Ended, Faulted, Doing, ◌>>=◌, and_then, asked_of, change, left_of, pure, refuse}
 use Rattle.shell_state.specs.Spending.{spend}

@@ -1,5 +1,5 @@
 -- Whole words and lists of words: what is respected holds of them, where it holds of two ways to run substitutions.
-use Rattle.std.proofs.Common.{ℕ, List, [], ◌∷◌, ◌++◌, length}
+use Rattle.std.proofs.Common.{List, [], ◌∷◌, length}
 use Rattle.std.specs.Prelude.{◌&&◌, not, nat_le}
 use Rattle.bash_braces.specs.Braces.{braces}
 use Rattle.bash_cond.specs.Arithmetic.{evaluates}
