@@ -96,8 +96,11 @@ impl Assignment {
     }
 }
 
-// What is given to a name, or to its element.
-fn give(
+/// Gives what an assignment gives to a name, or to its element.
+///
+/// # Errors
+/// The refusal. Nothing changed then.
+pub fn give(
     alloc: Global,
     vars: &mut Vars,
     name: &[u8],
@@ -211,8 +214,12 @@ fn bind_given(
     vars.bind(name, value)
 }
 
-// The value that an assignment gives where there is this one.
-fn value_given(
+/// The value that an assignment gives where there is this one; a plain text is given also where there is an array.
+///
+/// # Errors
+/// `BadSubscript` where an array is given to an element, a subscript means no index, or an index would pass
+/// 9223372036854775807; `ValueSize`; and `Memory`.
+pub fn value_given(
     alloc: Global,
     at: Option<i64>,
     appends: bool,

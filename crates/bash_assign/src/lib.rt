@@ -6,6 +6,6 @@ mod assignment;
 mod literal;
 mod values;
 
-pub use assignment::{Assignment, Given};
+pub use assignment::{Assignment, Given, give, value_given};
 pub use literal::Element;
 pub use values::{assign, set};
