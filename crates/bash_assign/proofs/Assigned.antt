@@ -48,3 +48,8 @@ sets_left name v at = changed_left name (set name v at.store) at
 
 pub assigns_left : (name : Text) (index : Option ℤ) (t : Text) (at : State) → left_of (assigns name index t at) ≤ at.left
 assigns_left name index t at = changed_left name (assign name index t at.store) at
+
+-- a refusal of what was to be given
+pub by_refusal : (why : Stop) (name : Text) (e : VarErr) (make : Store → Result Store VarErr) (old new : Store) (at : State)
+    → IsRefusal why name e → Refuses e (make old) → at.store ≡ old → Tells (Err why) (changed name (make at.store) at) (record at { store = new })
+by_refusal why name e make old new at is h same = by_stop why name e (make at.store) at new is (rw same h)

@@ -32,7 +32,8 @@ use Rattle.run_meaning.specs.Ends.{End, Goes, Returns, status, with_status}
 use Rattle.run_meaning.specs.Redirections.{under}
 use Rattle.run_meaning.specs.Simple.{call}
 use Rattle.run_meaning.specs.Subshells.{substitution}
-use Rattle.run_meaning.specs.Values.{Assignment, made}
+use Rattle.bash_assign.specs.Values.{made}
+use Rattle.bash_assign.specs.declared.assignment.Assignment.{Assignment}
 use Rattle.word_meaning.specs.Texts.{arith_text, text}
 
 -- nothing is open, and nine steps are left

@@ -46,7 +46,8 @@ use Rattle.run_meaning.specs.Redirections.{here_body, target, under}
 use Rattle.run_meaning.specs.Run.{command_at, defining}
 use Rattle.run_meaning.specs.Simple.{by_builtin, by_eval, by_function, by_host, by_name, by_plain, call, evaluated, invoked, joined_words, last_status, performed, simple, source, stands_alone}
 use Rattle.run_meaning.specs.Subshells.{substitution, subshell, trimmed, with_last}
-use Rattle.run_meaning.specs.Values.{GivenArray, GivenText, bound as bound_to, made}
+use Rattle.bash_assign.specs.Values.{bound as bound_to, made}
+use Rattle.bash_assign.specs.declared.assignment.Given.TheVariants as give
 use Rattle.word_meaning.specs.Lists.{fields}
 use Rattle.word_meaning.specs.Texts.{pattern, text}
 use Rattle.run_meaning.proofs.Given.{bound_same, made_same}
@@ -113,8 +114,8 @@ module _ (R : (A : Type 0) → Doing A → Doing A → Type 0) (respected : Resp
     index_part (Some s) = image _ _ Some (bind _ _ _ _ (subscript_part R respected sub tub k s) (λ t. evaluates_part R respected t))
 
     given_part : (v : Assigned) → Both (given sub v) (given tub v)
-    given_part (assigned.Text w) = image _ _ GivenText (assigned_part R respected sub tub k w)
-    given_part (assigned.Array ws) = image _ _ GivenArray (elements_part R respected sub tub k ws)
+    given_part (assigned.Text w) = image _ _ give.Text (assigned_part R respected sub tub k w)
+    given_part (assigned.Array ws) = image _ _ give.Array (elements_part R respected sub tub k ws)
 
     expanded_part : (a : Assign) → Both (expanded sub a) (expanded tub a)
     expanded_part a = bind _ _ _ _ (index_part (out-Assign a).sub) (λ at. bind _ _ _ _ (given_part (out-Assign a).value) (λ v. done _))

@@ -24,7 +24,7 @@ use Rattle.run_meaning.specs.Loops.{for_turns, while_turns}
 use Rattle.run_meaning.specs.Redirections.{io_back}
 use Rattle.run_meaning.specs.Simple.{by_host}
 use Rattle.run_meaning.specs.Subshells.{trimmed}
-use Rattle.run_meaning.specs.Values.{GivenText}
+use Rattle.bash_assign.specs.declared.assignment.Given.TheVariants as give
 
 -- ---- jumps
 
@@ -193,10 +193,10 @@ no_bracket : (at : State) → tests_bracketed (codes "a" ∷ []) at ≡ Faulted 
 no_bracket at = refl
 
 -- `declare -r x=1`, `declare x+=1`, `declare 1=2`
-declares_value : argument_of (codes "x=1") ≡ Assigns (record { name = codes "x"; at = None; appends = false; given = GivenText (codes "1") })
+declares_value : argument_of (codes "x=1") ≡ Assigns (record { name = codes "x"; at = None; appends = false; given = give.Text (codes "1") })
 declares_value = refl
 
-declares_more : argument_of (codes "x+=1") ≡ Assigns (record { name = codes "x"; at = None; appends = true; given = GivenText (codes "1") })
+declares_more : argument_of (codes "x+=1") ≡ Assigns (record { name = codes "x"; at = None; appends = true; given = give.Text (codes "1") })
 declares_more = refl
 
 declares_no_name : argument_of (codes "1=2") ≡ Said (codes "1=2")

@@ -11,7 +11,10 @@ use Rattle.shell_vars.specs.declared.kind.FrameKind.TheVariants as kind
 use Rattle.shell_state.specs.State.{State}
 use Rattle.shell_state.specs.Outcome.{Doing, ◌>>=◌, ◌>>◌, ◌<$>◌, pure, change}
 use Rattle.shell_state.specs.Opening.{bringing_back}
-use Rattle.run_meaning.specs.Values.{Assignment, Given, GivenText, GivenArray, bound, made}
+use Rattle.bash_assign.specs.Values.{bound, made}
+use Rattle.bash_assign.specs.declared.assignment.Assignment.{Assignment}
+use Rattle.bash_assign.specs.declared.assignment.Given.{Given}
+use Rattle.bash_assign.specs.declared.assignment.Given.TheVariants as give
 use Rattle.word_meaning.specs.Literals.{elements}
 use Rattle.word_meaning.specs.Texts.{assigned as assigned_text, subscript_text}
 pub use Rattle.word_meaning.specs.Variables.{changes}
@@ -33,8 +36,8 @@ module _ (sub : Items → Doing Text) where
   subscript (Some s) = Some <$> (subscript_text sub s >>= evaluates)
 
   abbrev pub given : Assigned → Doing Given
-  given (assigned.Text w) = GivenText <$> assigned_text sub w
-  given (assigned.Array ws) = GivenArray <$> elements sub ws
+  given (assigned.Text w) = give.Text <$> assigned_text sub w
+  given (assigned.Array ws) = give.Array <$> elements sub ws
 
   -- an assignment, expanded: the subscript before the value
   abbrev pub expanded : Assign → Doing Assignment

@@ -19,7 +19,7 @@ use Rattle.shell_state.specs.Outcome.{Doing, ◌>>=◌, ◌>>◌, pure, refuse, 
 use Rattle.shell_state.specs.declared.fault.Fault.TheVariants as fault
 use Rattle.run_meaning.specs.Assignments.{changes}
 use Rattle.run_meaning.specs.Ends.{End, Breaks, Continues, Returns, status, truth_status}
-use Rattle.run_meaning.specs.Values.{Assignment}
+use Rattle.bash_assign.specs.declared.assignment.Assignment.{Assignment}
 
 -- ---- the builtins that act on no run
 

@@ -19,7 +19,8 @@ use Rattle.run_meaning.specs.Layers.{ArgumentLayer}
 use Rattle.run_meaning.specs.Parts.{assigns_before, command_begins, redirs_before}
 use Rattle.run_meaning.specs.Redirections.{under}
 use Rattle.run_meaning.specs.Subshells.{substitution}
-use Rattle.run_meaning.specs.Values.{Assignment, GivenText}
+use Rattle.bash_assign.specs.declared.assignment.Assignment.{Assignment}
+use Rattle.bash_assign.specs.declared.assignment.Given.TheVariants as give
 use Rattle.word_meaning.specs.Lists.{fields}
 
 -- ---- words that assign
@@ -39,7 +40,7 @@ abbrev pub before_equals : Text → Text
 before_equals t = before_first (λ b. b == 61) t
 
 abbrev pub assigning : (left right : Text) → Assignment
-assigning left right = record { name = without_plus left; at = None; appends = has_plus left; given = GivenText right }
+assigning left right = record { name = without_plus left; at = None; appends = has_plus left; given = give.Text right }
 
 abbrev pub assigns_text : Text → Bool
 assigns_text t = list_any (λ b. b == 61) t && is_name (without_plus (before_equals t))

@@ -14,4 +14,3 @@ pub mod Redirections
 pub mod Run
 pub mod Simple
 pub mod Subshells
-pub mod Values

@@ -1,0 +1,16 @@
+//! The declarations: `declare`, `typeset`, `local`, `export` and `readonly` (Bash Reference Manual, "Bash Builtin
+//! Commands").
+#![tactic(auto)]
+
+mod argument;
+mod declare;
+mod effects;
+mod options;
+mod shown;
+
+pub use argument::{Argument, Declaration};
+pub use declare::declare;
+#[doc(hidden)]
+pub use effects::Place;
+#[doc(hidden)]
+pub use options::{Options, Unknown};
