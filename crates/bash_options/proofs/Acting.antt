@@ -33,7 +33,7 @@ prints_left t at = by (spend (text_cost t) at) (never_rises (text_cost t) at)
     by (Ended done p) le = let less : left_of (puts p.io.out t p) ≤ p.left = puts_left t p in omega arith
     by (Faulted why l asked) le = le
 
-shows_left : (a : Asked) (t : Text) (at : State) → left_of (shows a t at) ≤ at.left
+pub shows_left : (a : Asked) (t : Text) (at : State) → left_of (shows a t at) ≤ at.left
 shows_left a t at = by a.prints refl
   where
     by : (b : Bool) → a.prints ≡ b → left_of (shows a t at) ≤ at.left
@@ -69,10 +69,6 @@ pub loud : (r : Result (Unit {0}) Stop) (a : Asked) (t : Text) (at q : State) �
     → Tells r (prints t at) q → Tells r (shows a t at) q
 loud r a t at q e h = rw e h
 
-pub no_room : (a : Asked) (t : Text) (io : Io) (k : ℕ) (at : State) → at.left ≡ k
-    → Tells {A = Unit {0}} (Err stop.Memory) (shows a t at) (record at { io = io; left = k })
-no_room a t io k at kept = subst (λ l. left_of (shows a t at) ≤ l) kept (shows_left a t at)
-
 -- ---- the whole
 
 -- the words ask for this
@@ -81,25 +77,30 @@ asked : (ws : List Text) (a : Asked) (names : List Text) (old : Opts) (at : Stat
 unfolding shopt
 asked ws a names old at e same = ap (λ u. acts u at) e ∙ ap (λ o. ends_with a names (switched a o names) at) same
 
-pub acted : (ws : List Text) (a : Asked) (names : List Text) (old : Opts) (io : Io) (k : ℕ) (at : State)
-    → use_of ws ≡ Asks a names → at.opts ≡ old
-    → Tells {A = Unit {0}} (Ok tt) (shows a (lines (switched a old names) names) at) (record at { io = io; left = k })
-    → Tells {A = ℕ} (Ok (status a (switched a old names) names)) (shopt ws at) (record at { opts = switched a old names; io = io; left = k })
-acted ws a names old io k at e same h =
-    asked ws a names old at e same ∙ ap (ended (switched a old names) (status a (switched a old names) names)) h
+-- and of the options, once they are switched, all that is asked was printed
+pub acted : (ws : List Text) (a : Asked) (names : List Text) (old new : Opts) (n : ℕ) (io : Io) (k : ℕ) (at : State)
+    → use_of ws ≡ Asks a names → at.opts ≡ old → new ≡ switched a old names → n ≡ status a new names
+    → Tells {A = Unit {0}} (Ok tt) (shows a (lines new names) at) (record at { io = io; left = k })
+    → Tells {A = ℕ} (Ok n) (shopt ws at) (record at { opts = new; io = io; left = k })
+acted ws a names old new n io k at e same is tells h =
+    asked ws a names old at e same ∙ ap (λ o. ended o (status a o names) (shows a (lines o names) at)) (sym is)
+    ∙ ap (ended new (status a new names)) h ∙ ap (λ m. Ended m (record at { opts = new; io = io; left = k })) (sym tells)
 
-pub stopped : (why : Stop) (ws : List Text) (a : Asked) (names : List Text) (old opts : Opts) (io : Io) (k : ℕ) (at : State)
-    → use_of ws ≡ Asks a names → at.opts ≡ old
-    → Tells {A = Unit {0}} (Err why) (shows a (lines (switched a old names) names) at) (record at { io = io; left = k })
+-- or that was stopped
+pub stopped : (why : Stop) (ws : List Text) (a : Asked) (names : List Text) (old new opts : Opts) (io : Io) (k : ℕ) (at : State)
+    → use_of ws ≡ Asks a names → at.opts ≡ old → new ≡ switched a old names
+    → Tells {A = Unit {0}} (Err why) (shows a (lines new names) at) (record at { io = io; left = k })
     → Tells {A = ℕ} (Err why) (shopt ws at) (record at { opts = opts; io = io; left = k })
-stopped (stop.Fault why) ws a names old opts io k at e same h =
-    asked ws a names old at e same ∙ ap (ended (switched a old names) (status a (switched a old names) names)) h
-stopped stop.Failed ws a names old opts io k at e same h =
-    subst (λ o. left_of o ≤ k) (sym (asked ws a names old at e same))
-    (ends_left (switched a old names) (status a (switched a old names) names) k (shows a (lines (switched a old names) names) at) h)
-stopped stop.Memory ws a names old opts io k at e same h =
-    subst (λ o. left_of o ≤ k) (sym (asked ws a names old at e same))
-    (ends_left (switched a old names) (status a (switched a old names) names) k (shows a (lines (switched a old names) names) at) h)
+stopped why ws a names old new opts io k at e same is h =
+    subst (λ o. Tells {A = ℕ} (Err why) o (record at { opts = opts; io = io; left = k }))
+    (sym (asked ws a names old at e same ∙ ap (λ o. ended o (status a o names) (shows a (lines o names) at)) (sym is)))
+    (by why h)
+  where
+    by : (w : Stop) → Tells {A = Unit {0}} (Err w) (shows a (lines new names) at) (record at { io = io; left = k })
+        → Tells {A = ℕ} (Err w) (ended new (status a new names) (shows a (lines new names) at)) (record at { opts = opts; io = io; left = k })
+    by (stop.Fault f) g = ap (ended new (status a new names)) g
+    by stop.Failed g = ends_left new (status a new names) k (shows a (lines new names) at) g
+    by stop.Memory g = ends_left new (status a new names) k (shows a (lines new names) at) g
 
 wrong : (ws : List Text) (f : Fault) (at : State) → use_of ws ≡ IsWrong f → shopt ws at ≡ Faulted f at.left at.host.asked
 unfolding shopt

@@ -1,5 +1,5 @@
 -- The options of a shell by their names ("The Shopt Builtin").
-use Rattle.std.specs.Prelude.{Bool, ◌||◌, List, codes, if◌then◌else◌}
+use Rattle.std.specs.Prelude.{Bool, ◌||◌, codes, if◌then◌else◌}
 use Rattle.std.specs.Str.{bytes_eq}
 use Rattle.eb_bytes.specs.Text.{Text}
 use Rattle.shell_state.specs.declared.opts.Opts.{Opts}

@@ -1,5 +1,5 @@
 -- The options of `set` ("The Set Builtin").
-use Rattle.std.specs.Prelude.{ℕ, Bool, false, not, ◌==◌, ◌&&◌, ◌||◌, find, fold, Option, Some, None, List, [], ◌∷◌, codes, if◌then◌else◌}
+use Rattle.std.specs.Prelude.{ℕ, Bool, not, ◌==◌, ◌&&◌, ◌||◌, find, fold, Option, Some, None, List, [], ◌∷◌, codes, if◌then◌else◌}
 use Rattle.std.specs.Str.{bytes_eq}
 use Rattle.eb_bytes.specs.Text.{Text, has_bytes}
 use Rattle.shell_state.specs.Outcome.{Doing, Ended, refuse}

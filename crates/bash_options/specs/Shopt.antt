@@ -1,5 +1,5 @@
 -- `shopt` ("The Shopt Builtin").
-use Rattle.std.specs.Prelude.{ℕ, Bool, true, false, not, ◌&&◌, ◌||◌, fold, flat_map, List, [], ◌++◌, codes, if◌then◌else◌}
+use Rattle.std.specs.Prelude.{ℕ, Bool, true, false, not, ◌&&◌, ◌||◌, fold, flat_map, List, ◌++◌, codes, if◌then◌else◌}
 use Rattle.std.specs.List.{list_all}
 use Rattle.eb_bytes.specs.Text.{Text}
 use Rattle.shell_state.specs.Outcome.{Doing, Ended, ◌>>◌, pure, refuse}

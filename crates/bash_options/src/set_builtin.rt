@@ -105,9 +105,5 @@ fn with_letters(sign: u8, noglob: bool, letters: &[u8]) -> bool
 fn with_letter(sign: u8, noglob: bool, letter: u8) -> bool
     ensures { result ≡ with_letter_of sign noglob letter }
 {
-    if letter == b'f' {
-        sign == b'-'
-    } else {
-        noglob
-    }
+    if letter == b'f' { sign == b'-' } else { noglob }
 }

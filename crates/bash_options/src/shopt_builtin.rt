@@ -24,7 +24,7 @@ use std::sync::ledger::Ledger;
 /// `BadOption` where it has no option of a letter, with `-` and that letter; `BadUse` without a name, and where `-s` stands
 /// with `-u`; `BadOption` with a name that is none of the three; `StepsSpent`; `ValueSize` where a command substitution
 /// would capture more than 1,048,576 bytes; and `Memory`. Nothing was switched or printed then.
-#[tactic(auto, using(crate::proofs::Acting::acted, crate::proofs::Acting::stopped, crate::proofs::Acting::refused))]
+#[tactic(auto, using(crate::proofs::Acting::refused))]
 pub fn shopt<L: Ledger>(
     alloc: Global,
     words: &[Bytes],
@@ -54,7 +54,7 @@ pub fn shopt<L: Ledger>(
 }
 
 // Prints what is asked, of the options as they are then.
-#[tactic(auto, using(crate::proofs::Acting::silent, crate::proofs::Acting::loud, crate::proofs::Acting::no_room))]
+#[tactic(auto, using(crate::proofs::Acting::silent, crate::proofs::Acting::loud, crate::proofs::Acting::shows_left))]
 fn show<L: Ledger>(
     alloc: Global,
     asked: Asked,

@@ -1,4 +1,4 @@
-use Rattle.std.proofs.Common.{◌≡◌, ◌++◌, take}
+use Rattle.std.proofs.Common.{◌≡◌, take}
 use Rattle.bash_options.specs.Shopt.{lines}
 use Rattle.bash_options.proofs.shopt_builtin.lines.Given as goal
 
