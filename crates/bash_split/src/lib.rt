@@ -7,3 +7,4 @@ mod place;
 mod role;
 
 pub use fields::split;
+pub use role::{Ifs, Role};

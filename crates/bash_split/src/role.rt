@@ -5,16 +5,16 @@ use byte_class::is_space;
 use shell_marks::Mark;
 use std::marker::Model;
 
-// What a mark does where marks are split.
+/// What a mark does where marks are split.
 #[derive(Clone, Copy)]
-pub(crate) enum Role {
-    // It is part of a field.
+pub enum Role {
+    /// It is part of a field.
     Part,
-    // It ends a field if one is begun, together with a separator that comes next.
+    /// It ends a field if one is begun, together with a separator that comes next.
     Blank,
-    // It ends a field: the one that is begun, or that blanks before it ended, or else an empty one.
+    /// It ends a field: the one that is begun, or that blanks before it ended, or else an empty one.
     Separator,
-    // It ends a field if one is begun.
+    /// It ends a field if one is begun.
     Border,
 }
 
@@ -29,10 +29,10 @@ fn table_of(bytes: &[u8]) -> [bool; 256]
     table
 }
 
-// The bytes of IFS, with a table of them, so that the time of a look-up does not grow with IFS. Contracts see the
-// bytes.
+/// The bytes of IFS, with a table of them, so that the time of a look-up does not grow with IFS. Contracts see the
+/// bytes.
 #[derive(Drop)]
-pub(crate) struct Ifs<'a> {
+pub struct Ifs<'a> {
     bytes: &'a [u8],
     table: [bool; 256],
 }
@@ -51,7 +51,8 @@ impl<'a> Model for Ifs<'a> {
 impl<'a> Ifs<'a> {
     ghost use Rattle.bash_split.specs.Fields.{role};
 
-    pub(crate) fn new(bytes: &'a [u8]) -> Ifs<'a>
+    /// These bytes.
+    pub fn new(bytes: &'a [u8]) -> Ifs<'a>
         ensures { result ≡ bytes.now }
     {
         Ifs {
@@ -60,8 +61,8 @@ impl<'a> Ifs<'a> {
         }
     }
 
-    // What this mark does.
-    pub(crate) fn role(&self, mark: Mark) -> Role
+    /// What this mark does.
+    pub fn role(&self, mark: Mark) -> Role
         ensures { result ≡ role self.now mark }
     {
         match mark {

@@ -46,6 +46,8 @@
 //! | `funcs CALL..` | what the calls answer, as the head of `data/functions.rows` says |
 //! | `braces TEXT` | `ok` and the text of each word that the text's braces give, `many`, or `no` where it is no word |
 //! | `brace_count TEXT` | `ok` and how many words the text's braces give, or the same |
+//! | `shopt ON WORD..` | `ok`, the status, what is printed, the steps used of 10, the options on; or `fault` and its text |
+//! | `set ON WORD..` | `ok`, the options on, and `parameters` and each where they are given; or `fault` and its text |
 //! | `ansi TEXT`; `ansi_value TEXT` | what `$'..'` around the text stands for; `ok` and that, or `Quoting` |
 //! | `fault NAME [FIELD]..` | the text of the fault of a script; a text or a number in decimal for each field |
 //! | `word TEXT` | `place N`, where a word at the text's start ends; `no`, `deep LINE`, or `commands` where some stand in it |
@@ -57,6 +59,9 @@
 //! | `unary LETTER TEXT` | the same of `[[ -LETTER TEXT ]]`, but for `-v` |
 //! | `binary OP TEXT MARKS [steps LIMIT] [NAME=TEXT]..` | the same of `[[ TEXT OP MARKS ]]`, then `steps N` |
 //! | `arith TEXT [steps LIMIT] [GIVEN]..` | `ok N` or the fault, `steps N`, then each variable given or set |
+//! | `echo [steps LIMIT] [WORD]..` | `ok`, the status and what is printed, or `fault` and its text; then `steps N` |
+//! | `printf [steps LIMIT] [WORD].. [set GIVEN..]` | the same, then each variable given, or named in the first four words |
+//! | `reads INPUT IFS [WORD].. [set GIVEN..]` | `ok`, the status, what `read` prints, `took N` bytes of the input, variables |
 //! | `read LEVELS TEXT` | `ok` and the number of an expression's instructions, or the refusal's name |
 //!
 //! A line that is no request answers `what`. `GIVEN` is `NAME=TEXT`, `NAME[SUBSCRIPT]=TEXT`, or `!NAME` where the name

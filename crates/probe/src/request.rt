@@ -1,7 +1,9 @@
 use eb_bytes::Bytes;
 use probe_base::{Answer, Fault, Style, parts, read_texts};
 use probe_braces::{brace_count, braces};
+use probe_builtins::{echo, printf, reads};
 use probe_conditions::{binary, truth, unary};
+use probe_options::{set, shopt};
 use probe_packages::{
     cut, digest, eapi, entry, form, key, make, names, paths, phase, phases, read_digest, rs,
     signed, test, unquoted, unsigned, version, words,
@@ -53,6 +55,9 @@ fn answer_fields(request: &[u8], fields: &[&[u8]], answer: &mut Answer) -> Resul
         b"truth" => truth(fields, answer),
         b"unary" => unary(fields, answer),
         b"binary" => binary(fields, answer),
+        b"echo" => echo(fields, answer),
+        b"printf" => printf(fields, answer),
+        b"reads" => reads(fields, answer),
         b"read" => read(fields, answer),
         request => {
             let texts = read_texts(answer.alloc(), fields)?;
@@ -65,6 +70,8 @@ fn answer_fields(request: &[u8], fields: &[&[u8]], answer: &mut Answer) -> Resul
 fn answer_texts(request: &[u8], texts: &[Bytes], answer: &mut Answer) -> Result<(), Fault> {
     match (request, texts) {
         (b"rs", [v, pairs @ ..]) => rs(v.as_slice(), pairs, answer),
+        (b"shopt", [on, words @ ..]) => shopt(on.as_slice(), words, answer),
+        (b"set", [on, words @ ..]) => set(on.as_slice(), words, answer),
         (b"names", [category, package, file]) => names([category, package, file], answer),
         (b"paths", [a, b, c, d, e, f]) => paths([a, b, c], [d, e, f], answer),
         (b"test", [a, op, b]) => test(a.as_slice(), op.as_slice(), b.as_slice(), answer),

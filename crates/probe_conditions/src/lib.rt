@@ -1,7 +1,6 @@
 //! Requests on conditions: the words of `test`, and the operators of `[[ .. ]]`. No part of the product.
 #![tactic(auto)]
 
-mod given;
 mod operators;
 mod stops;
 mod words;

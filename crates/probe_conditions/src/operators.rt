@@ -1,18 +1,15 @@
 ghost use Rattle.std.specs.Prelude.{◌≡◌, ◌<◌};
 
-use crate::given::read_variables;
 use crate::stops::put_truth;
 use bash_cond::{Operands, text_test};
-use eb_bytes::{Budget, Steps, read_decimal};
+use eb_bytes::{Budget, Steps};
 use eb_syntax::BinOp;
 use probe_base::{Answer, Fault, read_marks, read_text};
+use probe_variables::{Known, read_limit};
 use shell_marks::Marked;
 use shell_vars::Vars;
 use std::marker::Brand;
 use std::sync::ledger::{Blank, Ledger};
-
-// How many steps a request may take that does not say so.
-const STEPS: u64 = 5_000_000;
 
 /// `unary LETTER TEXT`: the answer of the operator of `[[ .. ]]` that is `-` and this letter, but for `-v`: `true`,
 /// `false`, or `fault` and its text.
@@ -36,8 +33,8 @@ pub fn binary(fields: &[&[u8]], answer: &mut Answer) -> Result<(), Fault> {
     };
     let op = operator_of(op).ok_or(Fault::NoRequest)?;
     let (limit, given) = read_limit(given)?;
-    let mut vars = read_variables(answer.alloc(), given)?;
-    binary_with(op, [left, right], limit, &mut vars, answer)
+    let mut known = Known::new(answer.alloc(), b"", given)?;
+    binary_with(op, [left, right], limit, &mut known.vars, answer)
 }
 
 fn binary_with(
@@ -93,17 +90,6 @@ fn put_binary<L: Ledger>(
     put_truth(&truth, answer);
     answer.word("steps");
     answer.number(budget.used());
-}
-
-// The limit of the steps, and the fields after it.
-fn read_limit<'a>(fields: &'a [&'a [u8]]) -> Result<(u64, &'a [&'a [u8]]), Fault> {
-    match fields {
-        [word, limit, given @ ..] if *word == b"steps".as_slice() => {
-            let limit = read_decimal(limit).ok_or(Fault::NoRequest)?;
-            Ok((limit, given))
-        }
-        given => Ok((STEPS, given)),
-    }
 }
 
 // The operator that is written so.

@@ -1,0 +1,7 @@
+use Rattle.std.proofs.Common.{◌≡◌, drop, map}
+use Rattle.shell_marks.specs.Marks.{unquoted}
+use Rattle.bash_read.specs.Read.{array_of, filled}
+use Rattle.bash_read.proofs.read_builtin.elements.Given as goal
+
+abbrev pub invariant-loop-index : goal.invariant-loop-index
+invariant-loop-index l = filled l.elements l.index (map unquoted (drop l.index l.fields)) ≡ array_of (map unquoted l.fields)

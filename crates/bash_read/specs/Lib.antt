@@ -1,0 +1,5 @@
+pub mod Lines
+pub mod Options
+pub mod Parts
+pub mod Read
+pub mod Seen
