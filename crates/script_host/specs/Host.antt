@@ -35,4 +35,4 @@ all_end (suc n) = ends ∷ all_end n
 
 -- what the ends of subshells bring back that began while so many scripts were open
 abbrev pub saved_with : List ℕ → List Saved
-saved_with open = map (λ n. record { context = asked_only []; scripts = n }) open
+saved_with counts = map (λ n. record { context = asked_only []; scripts = n }) counts

@@ -19,7 +19,7 @@ pub struct ScriptHost {
     alloc: Global,
     scripts: Scripts,
     // How many scripts are open.
-    open: usize,
+    running: usize,
     // Of each open subshell, the innermost first, how many scripts were open as it began.
     subshells: VecDeque<usize>,
     asked: Vec<Bytes>,
@@ -36,7 +36,7 @@ impl ScriptHost {
         ScriptHost {
             alloc,
             scripts,
-            open: 0,
+            running: 0,
             subshells: VecDeque::new(alloc),
             asked: Vec::new(alloc),
         }
@@ -59,7 +59,7 @@ impl Host for ScriptHost {
 
     ghost context = { λ h. asked_only h.asked.items };
 
-    ghost pending = { λ h. all_end h.open };
+    ghost pending = { λ h. all_end h.running };
 
     ghost saved = { λ h. saved_with h.subshells.items };
 
@@ -80,10 +80,10 @@ impl Host for ScriptHost {
             return Ok(HostStep::NotMine);
         };
         let script = parsed.share()?;
-        let open = self.open.checked_add(1).ok_or(Memory)?;
+        let running = self.running.checked_add(1).ok_or(Memory)?;
         let name = Bytes::from_slice(self.alloc, call.name)?;
         self.asked.push(name)?;
-        self.open = open;
+        self.running = running;
         Ok(HostStep::Source(script))
     }
 
@@ -96,10 +96,10 @@ impl Host for ScriptHost {
         _budget: &mut Budget,
         _steps: &mut Steps<L>,
     ) -> Result<HostStep, Stop> {
-        if self.open <= self.open_outside() {
+        if self.running <= self.open_outside() {
             return Ok(HostStep::NotMine);
         }
-        self.open -= 1;
+        self.running -= 1;
         Ok(HostStep::Done {
             status,
             output: Bytes::new(self.alloc),
@@ -107,7 +107,7 @@ impl Host for ScriptHost {
     }
 
     fn open_sub(&mut self) -> Result<(), Memory> {
-        self.subshells.push_front(self.open)?;
+        self.subshells.push_front(self.running)?;
         Ok(())
     }
 
@@ -124,7 +124,7 @@ impl ScriptHost {
         ensures { result ≡ opened_before (saved_with self.now.subshells.items) }
     {
         match self.subshells.front() {
-            Some(open) => *open,
+            Some(count) => *count,
             None => 0,
         }
     }
