@@ -2,6 +2,7 @@ use eb_bytes::Bytes;
 use probe_base::{Answer, Fault, Style, parts, read_texts};
 use probe_braces::{brace_count, braces};
 use probe_builtins::{echo, printf, reads};
+use probe_calls::calls;
 use probe_conditions::{binary, truth, unary};
 use probe_options::{set, shopt};
 use probe_packages::{
@@ -48,6 +49,7 @@ fn answer_fields(request: &[u8], fields: &[&[u8]], answer: &mut Answer) -> Resul
         b"parameters" => parameters(fields, answer),
         b"vars" => vars(fields, answer),
         b"funcs" => funcs(fields, answer),
+        b"calls" => calls(fields, answer),
         b"share" => share(fields, answer),
         b"make" => make(fields, answer),
         b"fault" => fault(fields, answer),

@@ -2,6 +2,7 @@ use crate::readers::{lines, piece, quoted, subscript, word};
 use bash_cursor::{Cursor, LexErr};
 use bash_redirs::delimiter_word;
 use eb_bytes::Bytes;
+use eb_syntax::Redir;
 use probe_base::{Answer, Fault};
 
 // How many bytes a text has at most.
@@ -57,6 +58,12 @@ pub fn redir(text: &[u8], answer: &mut Answer) -> Result<(), Fault> {
 pub fn read_redir(c: &mut Cursor<'_>) -> Result<(), LexErr> {
     bash_redirs::redir(c, &word, &piece, &quoted)?;
     Ok(())
+}
+
+/// The redirection that a text begins with.
+pub fn redir_of(text: &[u8], answer: &Answer) -> Result<Redir, Fault> {
+    let mut c = beginning(text, answer)?;
+    bash_redirs::redir(&mut c, &word, &piece, &quoted).map_err(|_| Fault::NoRequest)
 }
 
 /// `regex TEXT`: where a regular expression at the start of the text ends.

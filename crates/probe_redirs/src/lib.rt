@@ -6,5 +6,5 @@ mod ends;
 mod here_documents;
 mod readers;
 
-pub use ends::{assign, mark, redir, regex};
+pub use ends::{assign, mark, redir, redir_of, regex};
 pub use here_documents::documents;
