@@ -9,7 +9,7 @@ ghost use Rattle.eb_grammar.specs.Grammar.{inside, rules_in};
 ghost use Rattle.eb_grammar.specs.Peg.{many};
 
 use bash_cursor::{Cursor, LexErr, backslash, lone, or_back};
-use bash_reading::{attempt, must, put, repeat, shared};
+use bash_reading::{attempt, must, put, shared};
 use eb_grammar::Class;
 use eb_syntax::{AP, ArithText, Back, Dollar};
 use sqlite_items::Items as List;

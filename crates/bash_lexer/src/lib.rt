@@ -2,6 +2,25 @@
 //! parameters. What stands inside a nesting is read by what is handed over.
 #![tactic(auto)]
 
+// All that a rule reads, turn by turn, until it has no reading.
+macro_rules! repeat {
+    ($cursor:expr, $read:expr) => {{
+        let start = $cursor.here();
+        let mut found = List::new($cursor.alloc());
+        for _turn in 0..$cursor.left() {
+            match $read {
+                Ok(node) => or_back!($cursor, start, put(&mut found, node)),
+                Err(LexErr::NoParse) => return Ok(found),
+                Err(error) => {
+                    $cursor.back_to(start);
+                    return Err(error);
+                }
+            }
+        }
+        Ok(found)
+    }};
+}
+
 // What a rule reads inside the nesting that it opens with these bytes. Where the cursor knows that the nesting has no
 // reading here, it is not read again.
 macro_rules! nested {

@@ -13,7 +13,7 @@ use bash_cursor::{
     Cursor, LexErr, ansi_quoted, continuation, escaped, group_start, lone, or_back, or_remember,
     process_start, single_quoted,
 };
-use bash_reading::{attempt, must, put, repeat, shared};
+use bash_reading::{attempt, must, put, shared};
 use eb_bytes::Bytes;
 use eb_grammar::Class;
 use eb_syntax::{Back, Body, Dollar, GroupPart, Piece, Plain};

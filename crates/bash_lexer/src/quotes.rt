@@ -9,7 +9,7 @@ ghost use Rattle.eb_grammar.specs.Peg.{many};
 ghost use Rattle.eb_grammar.specs.Words as words;
 
 use bash_cursor::{Cursor, LexErr, continuation, lone, or_back, or_remember};
-use bash_reading::{attempt, must, put, repeat, shared};
+use bash_reading::{attempt, must, put, shared};
 use eb_grammar::Class;
 use eb_syntax::{Back, DQ, Dollar, Piece, QPiece};
 use grammar_laws::Nesting;

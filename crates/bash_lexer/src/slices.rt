@@ -9,7 +9,7 @@ ghost use Rattle.eb_grammar.specs.Peg.{many};
 
 use crate::quotes::double_quoted_of;
 use bash_cursor::{Cursor, LexErr, backslash, lone, or_back};
-use bash_reading::{attempt, attempt_or_back, put, repeat, shared};
+use bash_reading::{attempt, attempt_or_back, put, shared};
 use eb_grammar::Class;
 use eb_syntax::{Back, Dollar, Op, SW};
 use shared::Shared;

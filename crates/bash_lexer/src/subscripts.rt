@@ -8,7 +8,7 @@ ghost use Rattle.eb_grammar.specs.Params as params;
 ghost use Rattle.eb_grammar.specs.Peg.{many};
 
 use bash_cursor::{Cursor, LexErr, or_back, or_remember};
-use bash_reading::{attempt, must, put, repeat, shared};
+use bash_reading::{attempt, must, put, shared};
 use eb_grammar::Class;
 use eb_syntax::{Piece, Sub, SubPart};
 use grammar_laws::Nesting;

@@ -10,7 +10,7 @@ ghost use Rattle.eb_grammar.specs.Peg.{many};
 
 use crate::quotes::{double_quoted_of, quoted_piece_of};
 use bash_cursor::{Cursor, LexErr, or_back};
-use bash_reading::{attempt, put, repeat, shared};
+use bash_reading::{attempt, put, shared};
 use eb_grammar::Class;
 use eb_syntax::{Back, Dollar, PW, Piece};
 use shared::Shared;

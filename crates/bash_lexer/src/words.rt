@@ -9,7 +9,7 @@ ghost use Rattle.eb_grammar.specs.Words as words;
 ghost use Rattle.eb_syntax.specs.Tree.{word_of_pieces};
 
 use bash_cursor::{Cursor, LexErr, or_back};
-use bash_reading::{put, repeat};
+use bash_reading::put;
 use eb_syntax::{Piece, Word};
 use sqlite_items::Items as List;
 use std::alloc::Global;

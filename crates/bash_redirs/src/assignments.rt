@@ -10,7 +10,7 @@ ghost use Rattle.eb_grammar.specs.Redirections as redirections;
 
 use crate::lists::word_of;
 use bash_cursor::{Cursor, LexErr, name, or_back};
-use bash_reading::{attempt, attempt_or_back, must, or_restore, put, repeat, repeat_marks};
+use bash_reading::{attempt, attempt_or_back, must, or_restore, put};
 use eb_syntax::{Assign, Assigned, Piece, Sub, Word};
 use sqlite_items::Items as List;
 

@@ -9,7 +9,7 @@ ghost use Rattle.eb_grammar.specs.HereDocuments as here;
 ghost use Rattle.eb_grammar.specs.Peg.{many, within};
 
 use bash_cursor::{Cursor, HereMark, LexErr, here_text, or_back};
-use bash_reading::{attempt, or_restore, put, repeat, shared};
+use bash_reading::{attempt, or_restore, put, shared};
 use eb_bytes::Bytes;
 use eb_syntax::{HereBody, HereText, QPiece};
 use shared::Shared;

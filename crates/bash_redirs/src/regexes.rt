@@ -9,7 +9,7 @@ ghost use Rattle.eb_grammar.specs.Grammar.{inside, rules_in};
 ghost use Rattle.eb_grammar.specs.Peg.{many};
 
 use bash_cursor::{Cursor, LexErr, or_back, or_remember};
-use bash_reading::{attempt, list_with, must, put, repeat};
+use bash_reading::{attempt, list_with, must, put};
 use eb_syntax::{Piece, RIn, Regex, RegexPart};
 use grammar_laws::Nesting;
 use sqlite_items::Items as List;
