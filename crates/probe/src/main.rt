@@ -44,6 +44,7 @@
 //! | `parameters FROM LEN ZERO [TEXT]..` | the same of these parameters, the first with the number 0 |
 //! | `vars CALL..` | what the calls answer, as the head of `data/variables.rows` says |
 //! | `funcs CALL..` | what the calls answer, as the head of `data/functions.rows` says |
+//! | `declares [steps N] CALL..` | what declarations answer, as the head of `data/declarations.rows` says; `steps N` |
 //! | `braces TEXT` | `ok` and the text of each word that the text's braces give, `many`, or `no` where it is no word |
 //! | `brace_count TEXT` | `ok` and how many words the text's braces give, or the same |
 //! | `ansi TEXT`; `ansi_value TEXT` | what `$'..'` around the text stands for; `ok` and that, or `Quoting` |

@@ -2,6 +2,7 @@ use eb_bytes::Bytes;
 use probe_base::{Answer, Fault, Style, parts, read_texts};
 use probe_braces::{brace_count, braces};
 use probe_conditions::{binary, truth, unary};
+use probe_declare::declares;
 use probe_packages::{
     cut, digest, eapi, entry, form, key, make, names, paths, phase, phases, read_digest, rs,
     signed, test, unquoted, unsigned, version, words,
@@ -46,6 +47,7 @@ fn answer_fields(request: &[u8], fields: &[&[u8]], answer: &mut Answer) -> Resul
         b"parameters" => parameters(fields, answer),
         b"vars" => vars(fields, answer),
         b"funcs" => funcs(fields, answer),
+        b"declares" => declares(fields, answer),
         b"share" => share(fields, answer),
         b"make" => make(fields, answer),
         b"fault" => fault(fields, answer),
