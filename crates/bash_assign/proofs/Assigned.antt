@@ -22,7 +22,8 @@ given_is error.ValueSize given isnt h = h
 given_is error.TotalSize given isnt h = h
 given_is error.Memory given isnt h = absurd (isnt refl)
 
-changed_left : (name : Text) (given : Result Store VarErr) (at : State) → left_of (changed name given at) ≤ at.left
+-- no step is given back
+pub changed_left : (name : Text) (given : Result Store VarErr) (at : State) → left_of (changed name given at) ≤ at.left
 changed_left name (Ok store) at = omega arith
 changed_left name (Err e) at = omega arith
 
@@ -42,7 +43,6 @@ pub not_set : (why : Stop) (name : Text) (v : Value) (e : VarErr) (old new : Sto
     → IsRefusal why name e → Refuses e (set name v old) → at.store ≡ old → Tells (Err why) (sets name v at) (record at { store = new })
 not_set why name v e old new at is h same = by_stop why name e (set name v at.store) at new is (rw same h)
 
--- no step is given back
 pub sets_left : (name : Text) (v : Value) (at : State) → left_of (sets name v at) ≤ at.left
 sets_left name v at = changed_left name (set name v at.store) at
 

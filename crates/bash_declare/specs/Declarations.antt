@@ -1,5 +1,5 @@
 -- The declarations as parts of a run (Bash Reference Manual, "Bash Builtin Commands").
-use Rattle.std.specs.Prelude.{ℕ, Bool, ◌&&◌, ◌||◌, ◌==◌, not, List, [], ◌∷◌, find, length, map, Option, None, Some, Result, Ok, Err, if◌then◌else◌}
+use Rattle.std.specs.Prelude.{ℕ, Bool, true, false, ◌||◌, ◌==◌, not, List, [], ◌∷◌, find, length, map, Option, None, Some, Result, Ok, Err, if◌then◌else◌}
 use Rattle.byte_class.specs.Class.{is_name}
 use Rattle.eb_bytes.specs.Text.{Text}
 use Rattle.eb_syntax.specs.declared.parts.DeclName.{DeclName}

@@ -1,5 +1,5 @@
 -- What a declaration makes of a variable (Bash Reference Manual, "Bash Builtin Commands", "Shell Functions").
-use Rattle.std.specs.Prelude.{ℤ, pos, Bool, true, false, ◌||◌, ◌==◌, is_some, Option, None, Some, Result, Ok, Err, if◌then◌else◌}
+use Rattle.std.specs.Prelude.{ℤ, pos, Bool, true, false, ◌||◌, is_some, Option, None, Some, Result, Ok, if◌then◌else◌}
 use Rattle.std.specs.Option.{option_and_then}
 use Rattle.eb_bytes.specs.Text.{Text}
 use Rattle.eb_syntax.specs.declared.parts.DeclName.{DeclName}

@@ -1,7 +1,6 @@
 -- What `declare -p` shows of variables, and `declare -f` of functions (Bash Reference Manual, "Bash Builtin Commands").
 use Rattle.std.specs.Prelude.{ℕ, Bool, true, false, ◌==◌, ◌||◌, List, [], ◌∷◌, ◌++◌, codes, decimal, flat_map, is_some, Option, None, Some, if◌then◌else◌}
 use Rattle.std.specs.FinMap as map
-use Rattle.std.specs.List.{join_by, list_any}
 use Rattle.eb_bytes.specs.Text.{Text}
 use Rattle.eb_syntax.specs.declared.tree.Command.{Command}
 use Rattle.shell_functions.specs.Funcs.{body_of}
@@ -30,8 +29,14 @@ quoted t = 34 ∷ (flat_map quoted_byte t ++ (34 ∷ []))
 abbrev pub element : ℕ × Text → Text
 element e = 91 ∷ (decimal e.0 ++ (93 ∷ 61 ∷ quoted e.1))
 
+-- elements, with a blank before each but the first
+abbrev pub elements_shown : (first : Bool) → List (ℕ × Text) → Text
+elements_shown first [] = []
+elements_shown true (e ∷ es) = element e ++ elements_shown false es
+elements_shown false (e ∷ es) = 32 ∷ (element e ++ elements_shown false es)
+
 abbrev pub elements : Elements → Text
-elements es = join_by element (32 ∷ []) (map.entries es)
+elements es = elements_shown true (map.entries es)
 
 -- a text in quotes, or all elements between parentheses
 abbrev pub value_shown : Value → Text

@@ -26,7 +26,7 @@ pub enum Place {
 }
 
 // Names a variable, without a value.
-#[tactic(auto, using(crate::proofs::Places::outside))]
+#[tactic(auto, using(crate::proofs::Places::named_outside, crate::proofs::Places::named_inside, crate::proofs::Places::named_refused))]
 pub(crate) fn name(
     declaration: DeclName,
     global: bool,
@@ -49,7 +49,7 @@ pub(crate) fn name(
 }
 
 // Gives a variable what an assignment gives.
-#[tactic(auto, using(crate::proofs::Places::outside))]
+#[tactic(auto, using(crate::proofs::Places::given_outside, crate::proofs::Places::given_local, crate::proofs::Places::given_refused))]
 pub(crate) fn give_declared(
     alloc: Global,
     declaration: DeclName,

@@ -3,13 +3,13 @@
 #![tactic(auto)]
 
 mod argument;
-mod declare;
+mod declarations;
 mod effects;
 mod options;
 mod shown;
 
 pub use argument::{Argument, Declaration};
-pub use declare::declare;
+pub use declarations::declare;
 #[doc(hidden)]
 pub use effects::Place;
 #[doc(hidden)]

@@ -1,10 +1,8 @@
 //! What is shown of variables and of functions.
 
-ghost use Rattle.std.specs.Prelude.{◌≡◌, [], ◌∷◌, ◌++◌, flat_map, IfOk, OnOk};
-ghost use Rattle.std.specs.FinMap as map;
+ghost use Rattle.std.specs.Prelude.{◌≡◌, ◌++◌, flat_map, IfOk, OnOk};
 ghost use Rattle.std.specs.Option.{option_copied};
 ghost use Rattle.bash_declare.specs.Shown as shown;
-ghost use Rattle.shell_vars.specs.Calls as call;
 
 use eb_bytes::{Bytes, Memory, decimal};
 use shell_functions::Funcs;

@@ -45,6 +45,7 @@
 //! | `vars CALL..` | what the calls answer, as the head of `data/variables.rows` says |
 //! | `funcs CALL..` | what the calls answer, as the head of `data/functions.rows` says |
 //! | `calls CALL..` | what the calls answer, as the head of `data/calls.rows` says |
+//! | `declares [steps N] CALL..` | what declarations answer, as the head of `data/declarations.rows` says; `steps N` |
 //! | `braces TEXT` | `ok` and the text of each word that the text's braces give, `many`, or `no` where it is no word |
 //! | `brace_count TEXT` | `ok` and how many words the text's braces give, or the same |
 //! | `shopt ON WORD..` | `ok`, the status, what is printed, the steps used of 10, the options on; or `fault` and its text |

@@ -5,6 +5,7 @@ use probe_builtins::{echo, printf, reads};
 use probe_calls::calls;
 use probe_conditions::{binary, truth, unary};
 use probe_options::{set, shopt};
+use probe_declare::declares;
 use probe_packages::{
     cut, digest, eapi, entry, form, key, make, names, paths, phase, phases, read_digest, rs,
     signed, test, unquoted, unsigned, version, words,
@@ -50,6 +51,7 @@ fn answer_fields(request: &[u8], fields: &[&[u8]], answer: &mut Answer) -> Resul
         b"vars" => vars(fields, answer),
         b"funcs" => funcs(fields, answer),
         b"calls" => calls(fields, answer),
+        b"declares" => declares(fields, answer),
         b"share" => share(fields, answer),
         b"make" => make(fields, answer),
         b"fault" => fault(fields, answer),

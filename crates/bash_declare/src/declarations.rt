@@ -38,6 +38,7 @@ use std::sync::ledger::Ledger;
 /// the arguments, from left to right, `BadName`, and the refusals of variables with the name: `LocalOutside`, `Readonly`,
 /// `BadSubscript`, `ValueSize`, `TotalSize`; of printing `StepsSpent` and `ValueSize`; and `Memory`. The variables may have
 /// changed then.
+#[tactic(auto, using(crate::proofs::Kept::declares_left, crate::proofs::Kept::each_left, crate::proofs::Kept::shows_left))]
 pub fn declare<L: Ledger>(
     alloc: Global,
     declaration: Declaration<'_>,
@@ -48,7 +49,7 @@ pub fn declare<L: Ledger>(
     steps: &mut Steps<L>,
 ) -> Result<u8, Stop>
     ensures means { (at : State) → at.store ≡ vars.old.present → at.funcs ≡ funcs.now.present → at.io ≡ io.old → at.left ≡ left budget.old →
-        Tells result (declarations.declares declaration.name declaration.options.now declaration.arguments.items at)
+        Tells result (declarations.declares declaration.entry.name declaration.entry.options.now declaration.entry.arguments.items at)
         (record at { store = vars.new.present; io = io.new; left = left budget.new }) }
     ensures no_file { result ≢ Err Stop.Failed }
     ensures saved { vars.new.saved ≡ vars.old.saved }
@@ -97,6 +98,7 @@ fn names_of(alloc: Global, arguments: &[Argument]) -> Result<Vec<Bytes>, Memory>
 }
 
 // What is told of these names, of functions or of variables.
+#[tactic(auto, using(crate::proofs::Kept::told_left))]
 fn told_by(
     alloc: Global,
     functions: bool,
@@ -124,6 +126,7 @@ fn first_no_name(names: &[Bytes]) -> Option<&Bytes>
 }
 
 // What it does with one argument.
+#[tactic(auto, using(crate::proofs::Kept::one_left, crate::proofs::Kept::name_left, crate::proofs::Kept::value_left))]
 fn declare_one(
     alloc: Global,
     declaration: DeclName,
@@ -153,6 +156,7 @@ fn declare_one(
     }
 }
 
+#[tactic(auto, using(crate::proofs::Kept::name_left, crate::proofs::Kept::changes_left))]
 fn declare_name(
     alloc: Global,
     declaration: DeclName,
@@ -173,6 +177,7 @@ fn declare_name(
     }
 }
 
+#[tactic(auto, using(crate::proofs::Kept::value_left, crate::proofs::Kept::changes_left))]
 fn declare_value(
     alloc: Global,
     declaration: DeclName,
@@ -197,6 +202,7 @@ fn declare_value(
 }
 
 // Adds the attributes.
+#[tactic(auto, using(crate::proofs::Kept::changes_left))]
 fn mark_declared(
     alloc: Global,
     declaration: DeclName,
