@@ -49,8 +49,11 @@ abbrev pub taken : Text → Option Options → (Options → Job) → Job
 taken w None next = Wrong (fault.BadName w)
 taken w (Some o) next = next o
 
+abbrev pub is_raw : ℕ → Bool
+is_raw c = c == 114
+
 abbrev pub with_letters : Text → Options → Options
-with_letters cs o = record o { raw = o.raw || list_any (λ c. c == 114) cs }
+with_letters cs o = record o { raw = o.raw || list_any is_raw cs }
 
 -- the names, each of which is one
 abbrev pub named : Options → List Text → Option Text → Job

@@ -4,7 +4,7 @@ use Rattle.std.specs.FinMap as finite
 use Rattle.eb_bytes.specs.Text.{Text}
 use Rattle.shell_marks.specs.declared.marked.Mark.{Mark}
 use Rattle.shell_vars.specs.Calls.{element}
-use Rattle.shell_vars.specs.Elements.{Elements}
+use Rattle.shell_vars.specs.Elements.{Elements, put_from}
 use Rattle.shell_vars.specs.Store.{Store}
 use Rattle.shell_vars.specs.declared.error.VarErr.{VarErr}
 use Rattle.shell_vars.specs.declared.value.Value.TheVariants as value
@@ -26,14 +26,9 @@ or_blanks (Err refused) = 32 ∷ 9 ∷ 10 ∷ []
 abbrev pub ifs_of : Store → Text
 ifs_of store = or_blanks (element (codes "IFS") None store)
 
--- elements, and texts as more of them, from an index on
-abbrev pub filled : Elements → ℕ → List Text → Elements
-filled es i [] = es
-filled es i (t ∷ ts) = filled (finite.insert es i t) (i + 1) ts
-
 -- texts as the elements of an array
 abbrev pub array_of : List Text → Elements
-array_of ts = filled finite.empty 0 ts
+array_of ts = put_from 0 ts finite.empty
 
 -- each name takes its text, one after another
 abbrev pub assigns_each : List Text → List Text → Doing (Unit {0})
