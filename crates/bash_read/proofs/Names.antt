@@ -13,7 +13,7 @@ use Rattle.bash_assign.specs.Assignments.{assigns}
 use Rattle.bash_read.specs.Parts.{after_field, first_field, texts_for}
 use Rattle.bash_read.specs.Read.{assigns_each, assigns_names}
 use Rattle.bash_read.proofs.Kept.{each_left}
-use Rattle.shell_state.specs.Outcome.{Outcome, Faulted, left_of}
+use Rattle.shell_state.specs.Outcome.{left_of}
 
 -- as many as there are names
 pub as_many_texts : (ifs : Text) (n : ℕ) (ms : List Mark) → length (texts_for ifs n ms) ≡ suc n

@@ -1,5 +1,5 @@
 -- What the words of `read` say (Bash Reference Manual, "Bash Builtin Commands", `read`).
-use Rattle.std.specs.Prelude.{ℕ, Bool, true, false, not, ◌==◌, ◌||◌, ◌&&◌, filter, find, Option, Some, None, List, [], ◌∷◌, ◌++◌, codes, drop, if◌then◌else◌}
+use Rattle.std.specs.Prelude.{ℕ, Bool, false, not, ◌==◌, ◌||◌, ◌&&◌, filter, find, Option, Some, None, List, [], ◌∷◌, codes, drop, if◌then◌else◌}
 use Rattle.std.specs.List.{list_any}
 use Rattle.std.specs.Str.{bytes_eq}
 use Rattle.byte_class.specs.Class.{is_name}

@@ -1,5 +1,5 @@
 -- `read` (Bash Reference Manual, "Bash Builtin Commands").
-use Rattle.std.specs.Prelude.{ℕ, zero, suc, ◌+◌, Bool, true, false, Option, Some, None, Result, Ok, Err, List, [], ◌∷◌, codes, drop, length, map, zip, if◌then◌else◌}
+use Rattle.std.specs.Prelude.{ℕ, ◌+◌, Option, Some, None, Result, Ok, Err, List, [], ◌∷◌, codes, drop, length, map, if◌then◌else◌}
 use Rattle.std.specs.FinMap as finite
 use Rattle.eb_bytes.specs.Text.{Text}
 use Rattle.shell_marks.specs.declared.marked.Mark.{Mark}
@@ -9,7 +9,6 @@ use Rattle.shell_vars.specs.Store.{Store}
 use Rattle.shell_vars.specs.declared.error.VarErr.{VarErr}
 use Rattle.shell_vars.specs.declared.value.Value.TheVariants as value
 use Rattle.shell_state.specs.Outcome.{Doing, ◌>>◌, pure, refuse}
-use Rattle.shell_state.specs.State.{State}
 use Rattle.bash_assign.specs.Assignments.{assigns, sets}
 use Rattle.bash_split.specs.Fields.{fields}
 use Rattle.bash_read.specs.Lines.{Line, line}

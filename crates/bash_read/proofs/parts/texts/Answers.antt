@@ -1,4 +1,4 @@
-use Rattle.std.proofs.Common.{◌≡◌, arith}
+use Rattle.std.proofs.Common.{arith}
 use Rattle.bash_read.proofs.Names.{one_more}
 use Rattle.bash_read.proofs.parts.texts.Goals as goal
 
