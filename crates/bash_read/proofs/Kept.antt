@@ -1,5 +1,5 @@
 -- What `read` gives to names, as parts of a run: no step is given back.
-use Rattle.std.proofs.Common.{◌≡◌, ℕ, suc, ◌+◌, ◌≤◌, List, [], ◌∷◌, length, Option, Some, None, refl, ap, arith}
+use Rattle.std.proofs.Common.{ℕ, ◌+◌, ◌≤◌, List, [], ◌∷◌, length, Option, Some, None, arith}
 use Rattle.std.specs.Prelude.{codes, map, if◌then◌else◌}
 use Rattle.eb_bytes.specs.Text.{Text}
 use Rattle.shell_marks.specs.Marks.{unquoted}
@@ -12,7 +12,7 @@ use Rattle.bash_assign.proofs.Assigned.{assigns_left, sets_left}
 use Rattle.bash_split.specs.Fields.{fields}
 use Rattle.bash_read.specs.Lines.{Line}
 use Rattle.bash_read.specs.Options.{Options}
-use Rattle.bash_read.specs.Parts.{after_field, texts_for}
+use Rattle.bash_read.specs.Parts.{texts_for}
 use Rattle.bash_read.specs.Read.{array_of, assigns_each, assigns_line, assigns_names, ifs_of, takes}
 
 -- what follows a part gives no steps back either

@@ -1,5 +1,5 @@
 -- What the words of `read` say (Bash Reference Manual, "Bash Builtin Commands", `read`).
-use Rattle.std.specs.Prelude.{ℕ, Bool, true, false, not, ◌==◌, ◌||◌, ◌&&◌, filter, find, Option, Some, None, List, [], ◌∷◌, ◌++◌, codes, drop, if◌then◌else◌}
+use Rattle.std.specs.Prelude.{ℕ, Bool, false, not, ◌==◌, ◌||◌, ◌&&◌, filter, find, Option, Some, None, List, [], ◌∷◌, codes, drop, if◌then◌else◌}
 use Rattle.std.specs.List.{list_any}
 use Rattle.std.specs.Str.{bytes_eq}
 use Rattle.byte_class.specs.Class.{is_name}
@@ -49,8 +49,11 @@ abbrev pub taken : Text → Option Options → (Options → Job) → Job
 taken w None next = Wrong (fault.BadName w)
 taken w (Some o) next = next o
 
+abbrev pub is_raw : ℕ → Bool
+is_raw c = c == 114
+
 abbrev pub with_letters : Text → Options → Options
-with_letters cs o = record o { raw = o.raw || list_any (λ c. c == 114) cs }
+with_letters cs o = record o { raw = o.raw || list_any is_raw cs }
 
 -- the names, each of which is one
 abbrev pub named : Options → List Text → Option Text → Job

@@ -1,15 +1,14 @@
 -- `read` (Bash Reference Manual, "Bash Builtin Commands").
-use Rattle.std.specs.Prelude.{ℕ, zero, suc, ◌+◌, Bool, true, false, Option, Some, None, Result, Ok, Err, List, [], ◌∷◌, codes, drop, length, map, zip, if◌then◌else◌}
+use Rattle.std.specs.Prelude.{ℕ, ◌+◌, Option, Some, None, Result, Ok, Err, List, [], ◌∷◌, codes, drop, length, map, if◌then◌else◌}
 use Rattle.std.specs.FinMap as finite
 use Rattle.eb_bytes.specs.Text.{Text}
 use Rattle.shell_marks.specs.declared.marked.Mark.{Mark}
 use Rattle.shell_vars.specs.Calls.{element}
-use Rattle.shell_vars.specs.Elements.{Elements}
+use Rattle.shell_vars.specs.Elements.{Elements, put_from}
 use Rattle.shell_vars.specs.Store.{Store}
 use Rattle.shell_vars.specs.declared.error.VarErr.{VarErr}
 use Rattle.shell_vars.specs.declared.value.Value.TheVariants as value
 use Rattle.shell_state.specs.Outcome.{Doing, ◌>>◌, pure, refuse}
-use Rattle.shell_state.specs.State.{State}
 use Rattle.bash_assign.specs.Assignments.{assigns, sets}
 use Rattle.bash_split.specs.Fields.{fields}
 use Rattle.bash_read.specs.Lines.{Line, line}
@@ -26,14 +25,9 @@ or_blanks (Err refused) = 32 ∷ 9 ∷ 10 ∷ []
 abbrev pub ifs_of : Store → Text
 ifs_of store = or_blanks (element (codes "IFS") None store)
 
--- elements, and texts as more of them, from an index on
-abbrev pub filled : Elements → ℕ → List Text → Elements
-filled es i [] = es
-filled es i (t ∷ ts) = filled (finite.insert es i t) (i + 1) ts
-
 -- texts as the elements of an array
 abbrev pub array_of : List Text → Elements
-array_of ts = filled finite.empty 0 ts
+array_of ts = put_from 0 ts finite.empty
 
 -- each name takes its text, one after another
 abbrev pub assigns_each : List Text → List Text → Doing (Unit {0})

@@ -1,6 +1,7 @@
 ghost use Rattle.std.specs.Prelude.{◌≡◌, ◌≢◌, ◌∷◌, [], drop, filter, find, IfNone, IfOk, IfSome};
+ghost use Rattle.std.specs.List.{list_any};
 ghost use Rattle.std.specs.Option.{option_map};
-ghost use Rattle.bash_read.specs.Options.{first_byte as first_byte_of, is_no_name, is_option as is_option_of, is_unknown, job, names as names_said, takes_word as takes_word_of, with_letters as with_letters_of, with_word as with_word_of};
+ghost use Rattle.bash_read.specs.Options.{first_byte as first_byte_of, is_no_name, is_option as is_option_of, is_raw as is_raw_of, is_unknown, job, names as names_said, takes_word as takes_word_of, with_letters as with_letters_of, with_word as with_word_of};
 ghost use Rattle.bash_read.specs.Seen.{IsWrong, seen, seen_fault, seen_options};
 
 use byte_class::is_name;
@@ -130,10 +131,20 @@ fn unknown(letters: &[u8]) -> Option<u8>
 fn with_letters<'a>(letters: &[u8], options: Options<'a>) -> Options<'a>
     ensures { seen_options result ≡ with_letters_of letters.now (seen_options options.entry) }
 {
-    Options {
-        raw: options.raw || letters.iter().any(|letter| *letter == b'r'),
-        ..options
-    }
+    let raw = options.raw || has_raw(letters);
+    Options { raw, ..options }
+}
+
+fn has_raw(letters: &[u8]) -> bool
+    ensures { result ≡ list_any is_raw_of letters.now }
+{
+    letters.iter().any(|letter| is_raw(*letter))
+}
+
+fn is_raw(letter: u8) -> bool
+    ensures { result ≡ is_raw_of letter }
+{
+    letter == b'r'
 }
 
 // With a letter and its word; none where the word is to be a name and is none.

@@ -1,4 +1,4 @@
-ghost use Rattle.std.specs.Prelude.{◌≡◌, ◌≢◌, drop, length, map, Err, IfOk};
+ghost use Rattle.std.specs.Prelude.{◌≡◌, ◌≢◌, ◌+◌, ◌≤◌, drop, if◌then◌else◌, length, map, Err, IfOk};
 ghost use Rattle.std.specs.Option.{option_copied};
 ghost use Rattle.bash_split.specs.Fields.{fields as fields_of_marks};
 ghost use Rattle.shell_marks.specs.Marks.{unquoted};
@@ -7,7 +7,9 @@ ghost use Rattle.shell_vars.specs.declared.value.Value.TheVariants as value;
 ghost use Rattle.bash_assign.specs.Assignments.{sets};
 ghost use Rattle.shell_state.specs.Outcome.{Tells};
 ghost use Rattle.shell_state.specs.State.{State};
+ghost use Rattle.shell_state.specs.declared.fault.Fault.{Fault};
 ghost use Rattle.bash_read.specs.Lines.{line as line_of};
+ghost use Rattle.bash_read.specs.Options.{Wrong, job};
 ghost use Rattle.bash_read.specs.Read.{array_of, assigns_each, assigns_line, assigns_names, ifs_of as ifs_in, read as reads, takes};
 ghost use Rattle.bash_read.specs.Seen.{seen_options};
 
@@ -34,6 +36,8 @@ pub fn read(alloc: Global, words: &[Bytes], vars: &mut Vars, io: &mut Io) -> Res
     ensures means { (at : State) → at.store ≡ vars.old.present → at.io ≡ io.old →
         Tells result (reads words.now at) (record at { store = vars.new.present; io = io.new }) }
     ensures no_file { result ≢ Err Stop.Failed }
+    ensures untaken { (why : Fault) → job words.now ≡ Wrong why → (io.new ≡ io.old) × (vars.new ≡ vars.old) }
+    ensures outputs { io.new ≡ record io.old { place = io.new.place } }
     ensures saved { vars.new.saved ≡ vars.old.saved }
     ensures kinds { kinds vars.new.present ≡ kinds vars.old.present }
 {
@@ -55,6 +59,7 @@ fn take(
         Tells result (takes (seen_options options.now) names.now (line_of options.now.raw options.now.delimiter (drop io.old.place io.old.input)) at)
         (record at { store = vars.new.present; io = io.new }) }
     ensures no_file { result ≢ Err Stop.Failed }
+    ensures outputs { io.new ≡ record io.old { place = io.new.place } }
     ensures saved { vars.new.saved ≡ vars.old.saved }
     ensures kinds { kinds vars.new.present ≡ kinds vars.old.present }
 {
@@ -64,7 +69,7 @@ fn take(
         options.delimiter,
         from(&io.input, io.place),
     )?;
-    io.place += line.taken;
+    io.place = advanced(&io.input, io.place, line.taken);
     give_line(alloc, options.array, names, &line.marks, vars)?;
     Ok(status_of(line.ended))
 }
@@ -81,6 +86,19 @@ fn from(text: &Bytes, place: usize) -> &[u8]
 {
     let text = text.as_slice();
     &text[place.min(text.len())..]
+}
+
+// The place after so many bytes more, of which there are none past the end.
+#[tactic(auto, using(crate::proofs::Names::left_length))]
+fn advanced(text: &Bytes, place: usize, taken: usize) -> usize
+    requires within { taken ≤ length (drop place text.now) }
+    ensures { result ≡ place + taken }
+{
+    if place < text.len() {
+        place + taken
+    } else {
+        place
+    }
 }
 
 // Gives a line to an array, or to names.
@@ -148,7 +166,7 @@ fn elements(alloc: Global, fields: &[Marked]) -> Result<Elements, Memory>
 }
 
 // Gives the line to REPLY where there is no name, and else its parts to the names.
-#[tactic(auto, using(bash_assign::proofs::Assigned::assigns_left, crate::proofs::Kept::each_left, crate::proofs::Kept::as_many_texts))]
+#[tactic(auto, using(crate::proofs::Kept::names_left, crate::proofs::Names::as_many_texts))]
 fn give_names(alloc: Global, names: &[Bytes], marks: &Marked, vars: &mut Vars) -> Result<(), Stop>
     ensures means { (at : State) → at.store ≡ vars.old.present →
         Tells result (assigns_names (ifs_in vars.old.present) marks.now names.now at)
