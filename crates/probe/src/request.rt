@@ -4,8 +4,8 @@ use probe_braces::{brace_count, braces};
 use probe_builtins::{echo, printf, reads};
 use probe_calls::calls;
 use probe_conditions::{binary, truth, unary};
-use probe_options::{set, shopt};
 use probe_declare::declares;
+use probe_options::{set, shopt};
 use probe_packages::{
     cut, digest, eapi, entry, form, key, make, names, paths, phase, phases, read_digest, rs,
     signed, test, unquoted, unsigned, version, words,
