@@ -1,2 +1,3 @@
-pub mod Scripts
 pub mod Host
+pub mod Lasting
+pub mod Scripts

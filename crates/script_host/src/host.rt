@@ -53,7 +53,7 @@ impl ScriptHost {
 impl Host for ScriptHost {
     ghost use Rattle.std.specs.Prelude.{Some, false};
     ghost use Rattle.script_host.specs.Host.{all_end, asked_only, commands_of, saved_with};
-    ghost use Rattle.script_host.proofs.Lasting.{commands_last};
+    ghost use Rattle.script_host.specs.Lasting.{commands_last};
 
     ghost commands = { λ h. Some (commands_of h.scripts) };
 
