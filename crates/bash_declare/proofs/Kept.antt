@@ -1,6 +1,6 @@
 -- Declarations give no steps back.
 use Rattle.std.proofs.Common.{◌≡◌, ℕ, ◌≤◌, Bool, true, false, List, [], ◌∷◌, Option, Some, None, Result, Ok, Err, refl, arith}
-use Rattle.std.specs.Prelude.{◌||◌, ◌==◌, find, length, map, if◌then◌else◌}
+use Rattle.std.specs.Prelude.{◌||◌, ◌==◌, find, length, map}
 use Rattle.byte_class.specs.Class.{is_name}
 use Rattle.eb_bytes.specs.Text.{Text}
 use Rattle.eb_syntax.specs.declared.parts.DeclName.{DeclName}
@@ -13,7 +13,7 @@ use Rattle.shell_vars.specs.Store.{Store}
 use Rattle.shell_vars.specs.declared.error.VarErr.{VarErr}
 use Rattle.bash_assign.proofs.Assigned.{changed_left}
 use Rattle.bash_assign.specs.declared.assignment.Assignment.{Assignment}
-use Rattle.bash_declare.specs.Declarations.{acts, acts_unless, changes, declares, declares_each, declares_name, declares_one, declares_value, is_no_name, named_by, shows, tells, told_by, unless_no_name, variables_told}
+use Rattle.bash_declare.specs.Declarations.{acts, acts_unless, changes, declares, declares_each, declares_name, declares_one, declares_value, is_no_name, named_by, shows, tells, told_by, unless_no_name}
 use Rattle.bash_declare.specs.Effects.{attributes_of, given_in, marked_with, named_in, place_of, subscript_of}
 use Rattle.bash_declare.specs.Options.{options_of}
 use Rattle.bash_declare.specs.Shown.{line_of, told}

@@ -1,5 +1,5 @@
 -- Where no call is open `local` is refused as outside, and only there.
-use Rattle.std.proofs.Common.{◌≡◌, ◌≢◌, ℤ, ℕ, Bool, true, false, Option, Some, None, Result, Ok, Err, refl, sym, ap, subst, ◌∙◌}
+use Rattle.std.proofs.Common.{◌≡◌, ◌≢◌, ℤ, ℕ, Bool, true, false, Option, Some, None, Ok, Err, refl, ap, ◌∙◌}
 use Rattle.std.specs.Prelude.{is_some, nat_le, if◌then◌else◌}
 use Rattle.eb_bytes.specs.Text.{Text}
 use Rattle.shell_vars.specs.Calls.{is_readonly_global, local, local_in}
@@ -21,7 +21,7 @@ other_refusal false true d s u e = cc e
 other_refusal false false true s u e = cc e
 other_refusal false false false s u e = cc e
 
-place_at : Option ℕ → Place
+abbrev place_at : Option ℕ → Place
 place_at c = if is_some c then place.Local else place.Seen
 
 outside_at : (c : Option ℕ) (x : Text) (s : Store) → local_in c x None s ≡ Err refusal.LocalOutside → place_at c ≡ place.Seen
