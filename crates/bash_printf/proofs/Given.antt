@@ -1,5 +1,5 @@
 -- A text that is given to a variable, as a part of a run.
-use Rattle.std.proofs.Common.{◌≡◌, ℕ, ◌≤◌, ℤ, Option, Some, None, Result, Ok, Err, refl, sym, ap, subst, ◌∙◌, arith}
+use Rattle.std.proofs.Common.{◌≡◌, ℕ, ◌≤◌, ℤ, Option, Some, None, Result, Ok, Err, sym, ap, subst, ◌∙◌, arith}
 use Rattle.eb_bytes.specs.Text.{Text}
 use Rattle.shell_vars.specs.Store.{Store}
 use Rattle.shell_state.specs.Outcome.{Doing, Outcome, Ended, Faulted, and_then, left_of, pure, Tells}

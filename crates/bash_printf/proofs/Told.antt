@@ -1,11 +1,9 @@
 -- What a builtin prints, as a part of a run.
 use Rattle.std.proofs.Common.{◌≡◌, ℕ, ◌≤◌, Bool, true, false, Result, Ok, Err, refl, sym, ap, subst, ◌∙◌, arith}
-use Rattle.std.specs.Prelude.{if◌then◌else◌}
-use Rattle.eb_bytes.specs.Spending.{Spending}
 use Rattle.eb_bytes.specs.Text.{Text}
-use Rattle.shell_state.specs.Outcome.{Outcome, Ended, Faulted, and_then, left_of, pure, refuse, Tells}
-use Rattle.shell_state.specs.Output.{may_put, prints, puts, Prints}
-use Rattle.shell_state.specs.Spending.{left, text_cost, spend}
+use Rattle.shell_state.specs.Outcome.{Outcome, Ended, Faulted, and_then, left_of, pure, Tells}
+use Rattle.shell_state.specs.Output.{may_put, prints, puts}
+use Rattle.shell_state.specs.Spending.{text_cost, spend}
 use Rattle.shell_state.specs.State.{State}
 use Rattle.shell_state.specs.declared.fault.Fault.{Fault}
 use Rattle.shell_state.specs.declared.io.Io.{Io}

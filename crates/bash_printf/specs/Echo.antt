@@ -1,5 +1,5 @@
 -- `echo` (Bash Reference Manual, "Bash Builtin Commands").
-use Rattle.std.specs.Prelude.{ℕ, Bool, true, false, ◌==◌, ◌||◌, ◌&&◌, fold, List, [], ◌∷◌, ◌++◌, codes, drop, Result, if◌then◌else◌}
+use Rattle.std.specs.Prelude.{ℕ, Bool, true, false, ◌==◌, ◌||◌, ◌&&◌, fold, List, [], ◌∷◌, ◌++◌, codes, drop, if◌then◌else◌}
 use Rattle.std.specs.List.{join_with_byte, list_all}
 use Rattle.eb_bytes.specs.Text.{Text, has_bytes}
 use Rattle.shell_state.specs.Outcome.{Doing}

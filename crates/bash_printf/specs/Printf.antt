@@ -8,7 +8,7 @@ use Rattle.bash_cond.specs.Arithmetic.{evaluates}
 use Rattle.bash_assign.specs.Assignments.{assigns}
 use Rattle.printf_format.specs.Formats.{formatted}
 use Rattle.bash_printf.specs.Printing.{judged, told}
-use Rattle.bash_printf.specs.Use.{Formats, Target, Use, Wrong, use_of}
+use Rattle.bash_printf.specs.Use.{Formats, Use, Wrong, use_of}
 
 -- what a format and words make, or the fault
 abbrev pub made : Text → List Text → Result Text Fault

@@ -1,7 +1,6 @@
 -- What the words of `printf` say, as this crate hands it on.
-use Rattle.std.specs.Prelude.{Option, Some, None, [], ◌∷◌, codes}
+use Rattle.std.specs.Prelude.{[], ◌∷◌, codes}
 use Rattle.std.specs.Option.{option_copied, option_map}
-use Rattle.eb_bytes.specs.Text.{Text}
 use Rattle.shell_state.specs.declared.fault.Fault.{Fault}
 use Rattle.shell_state.specs.declared.fault.Fault.TheVariants as fault
 use Rattle.bash_printf.specs.declared.words_read.Destination.{Destination}

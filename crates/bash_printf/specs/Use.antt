@@ -1,5 +1,5 @@
 -- What the words of `printf` say (Bash Reference Manual, "Bash Builtin Commands", `printf`).
-use Rattle.std.specs.Prelude.{ℕ, zero, suc, ◌-◌, Bool, true, false, not, ◌==◌, ◌&&◌, nat_le, find, Option, Some, None, List, [], ◌∷◌, codes, drop, length, slice_index, take, if◌then◌else◌}
+use Rattle.std.specs.Prelude.{ℕ, zero, suc, ◌-◌, Bool, false, not, ◌==◌, ◌&&◌, nat_le, find, Option, Some, None, List, [], ◌∷◌, codes, drop, length, slice_index, take, if◌then◌else◌}
 use Rattle.std.specs.List.{before_first, position_or_len}
 use Rattle.std.specs.Str.{bytes_eq}
 use Rattle.byte_class.specs.Class.{is_name}

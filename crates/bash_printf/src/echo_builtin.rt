@@ -1,4 +1,4 @@
-ghost use Rattle.std.specs.Prelude.{◌≡◌, ◌≢◌, ◌+◌, ◌≤◌, ◌++◌, [], codes, drop, Err, IfOk, fold};
+ghost use Rattle.std.specs.Prelude.{◌≡◌, ◌≢◌, ◌+◌, ◌≤◌, ◌++◌, [], codes, drop, Err, IfOk, OnErr, fold};
 ghost use Rattle.std.specs.List.{join_with_byte, list_all};
 ghost use Rattle.printf_format.specs.Fields.{shown};
 ghost use Rattle.shell_state.specs.Outcome.{Tells};
@@ -41,6 +41,7 @@ pub fn echo<L: Ledger>(
     ensures means { (at : State) → at.io ≡ io.old → at.left ≡ left budget.old →
         Tells result (echoes words.now at) (record at { io = io.new; left = left budget.new }) }
     ensures no_file { result ≢ Err Stop.Failed }
+    ensures unprinted { OnErr result (io.new ≡ io.old) }
     ensures limit { budget.new.limit ≡ budget.old.limit }
     ensures used { budget.old.used ≤ budget.new.used }
     ensures ticks { steps.new + budget.old.used ≡ steps.old + budget.new.used }

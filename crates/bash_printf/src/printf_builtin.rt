@@ -1,4 +1,4 @@
-ghost use Rattle.std.specs.Prelude.{◌≡◌, ◌≢◌, ◌+◌, ◌≤◌, codes, Err, IfOk};
+ghost use Rattle.std.specs.Prelude.{◌≡◌, ◌≢◌, ◌+◌, ◌≤◌, codes, Err, IfOk, OnErr};
 ghost use Rattle.std.specs.Option.{option_copied};
 ghost use Rattle.shell_vars.specs.Store.{kinds};
 ghost use Rattle.shell_state.specs.Outcome.{Tells};
@@ -18,6 +18,20 @@ use shell_state::{Fault, Io, Stop};
 use shell_vars::Vars;
 use std::alloc::Global;
 use std::sync::ledger::Ledger;
+
+// A format with its words.
+#[derive(Clone, Copy)]
+struct Printed<'a> {
+    format: &'a [u8],
+    words: &'a [Bytes],
+}
+
+// A variable, or its element of this index.
+#[derive(Clone, Copy)]
+struct Place<'a> {
+    name: &'a [u8],
+    index: Option<i64>,
+}
 
 /// `printf`: prints its words by a format, or gives the text to a variable with `-v` (Bash Reference Manual, "Bash
 /// Builtin Commands"). It answers the status 0. What is printed or given costs its bytes and 1, divided by 64, before it
@@ -41,6 +55,7 @@ pub fn printf<L: Ledger>(
     ensures means { (at : State) → at.store ≡ vars.old.present → at.io ≡ io.old → at.left ≡ left budget.old →
         Tells result (printf_does words.now at) (record at { store = vars.new.present; io = io.new; left = left budget.new }) }
     ensures no_file { result ≢ Err Stop.Failed }
+    ensures unprinted { OnErr result (io.new ≡ io.old) }
     ensures saved { vars.new.saved ≡ vars.old.saved }
     ensures kinds { kinds vars.new.present ≡ kinds vars.old.present }
     ensures limit { budget.new.limit ≡ budget.old.limit }
@@ -48,10 +63,14 @@ pub fn printf<L: Ledger>(
     ensures ticks { steps.new + budget.old.used ≡ steps.old + budget.new.used }
 {
     match read_words(words) {
-        Job::Formats(None, format, words) => print_format(alloc, format, words, io, budget, steps),
-        Job::Formats(Some(to), format, words) => give_format(
-            alloc, &to, format, words, vars, budget, steps,
-        ),
+        Job::Formats(None, format, words) => {
+            let printed = Printed { format, words };
+            print_format(alloc, &printed, io, budget, steps)
+        }
+        Job::Formats(Some(to), format, words) => {
+            let printed = Printed { format, words };
+            give_format(alloc, &to, &printed, vars, budget, steps)
+        }
         Job::Refused(why) => Err(refusal(alloc, why)),
     }
 }
@@ -60,20 +79,20 @@ pub fn printf<L: Ledger>(
 #[tactic(auto, using(crate::proofs::Told::told_ok, crate::proofs::Told::told_err, crate::proofs::Told::told_fault, crate::proofs::Told::told_left))]
 fn print_format<L: Ledger>(
     alloc: Global,
-    format: &[u8],
-    words: &[Bytes],
+    printed: &Printed<'_>,
     io: &mut Io,
     budget: &mut Budget,
     steps: &mut Steps<L>,
 ) -> Result<u8, Stop>
     ensures means { (at : State) → at.io ≡ io.old → at.left ≡ left budget.old →
-        Tells result (told (made format.now words.now) at) (record at { io = io.new; left = left budget.new }) }
+        Tells result (told (made printed.now.format.now printed.now.words.now) at) (record at { io = io.new; left = left budget.new }) }
     ensures no_file { result ≢ Err Stop.Failed }
+    ensures unprinted { OnErr result (io.new ≡ io.old) }
     ensures limit { budget.new.limit ≡ budget.old.limit }
     ensures used { budget.old.used ≤ budget.new.used }
     ensures ticks { steps.new + budget.old.used ≡ steps.old + budget.new.used }
 {
-    let formatted = format_words(alloc, format, words)?;
+    let formatted = format_words(alloc, printed.format, printed.words)?;
     judge(alloc, b"printf", formatted.ending)?;
     print(alloc, &formatted.text, io, budget, steps)?;
     Ok(0)
@@ -83,14 +102,13 @@ fn print_format<L: Ledger>(
 fn give_format<L: Ledger>(
     alloc: Global,
     to: &Destination<'_>,
-    format: &[u8],
-    words: &[Bytes],
+    printed: &Printed<'_>,
     vars: &mut Vars,
     budget: &mut Budget,
     steps: &mut Steps<L>,
 ) -> Result<u8, Stop>
     ensures means { (at : State) → at.store ≡ vars.old.present → at.left ≡ left budget.old →
-        Tells result (gives to.now.name.now (option_copied to.now.subscript) (made format.now words.now) at)
+        Tells result (gives to.now.name.now (option_copied to.now.subscript) (made printed.now.format.now printed.now.words.now) at)
         (record at { store = vars.new.present; left = left budget.new }) }
     ensures no_file { result ≢ Err Stop.Failed }
     ensures saved { vars.new.saved ≡ vars.old.saved }
@@ -100,7 +118,13 @@ fn give_format<L: Ledger>(
     ensures ticks { steps.new + budget.old.used ≡ steps.old + budget.new.used }
 {
     match index_of(alloc, to.subscript, vars, budget, steps) {
-        Ok(index) => give(alloc, to.name, index, format, words, vars, budget, steps),
+        Ok(index) => {
+            let place = Place {
+                name: to.name,
+                index,
+            };
+            give(alloc, &place, printed, vars, budget, steps)
+        }
         Err(stopped) => Err(stopped),
     }
 }
@@ -135,16 +159,14 @@ fn index_of<L: Ledger>(
 #[tactic(auto, using(crate::proofs::Given::given_left, crate::proofs::Given::not_given))]
 fn give<L: Ledger>(
     alloc: Global,
-    name: &[u8],
-    index: Option<i64>,
-    format: &[u8],
-    words: &[Bytes],
+    place: &Place<'_>,
+    printed: &Printed<'_>,
     vars: &mut Vars,
     budget: &mut Budget,
     steps: &mut Steps<L>,
 ) -> Result<u8, Stop>
     ensures means { (at : State) → at.store ≡ vars.old.present → at.left ≡ left budget.old →
-        Tells result (given name.now index (made format.now words.now) at)
+        Tells result (given place.now.name.now place.now.index (made printed.now.format.now printed.now.words.now) at)
         (record at { store = vars.new.present; left = left budget.new }) }
     ensures no_file { result ≢ Err Stop.Failed }
     ensures saved { vars.new.saved ≡ vars.old.saved }
@@ -153,11 +175,11 @@ fn give<L: Ledger>(
     ensures used { budget.old.used ≤ budget.new.used }
     ensures ticks { steps.new + budget.old.used ≡ steps.old + budget.new.used }
 {
-    let formatted = format_words(alloc, format, words)?;
+    let formatted = format_words(alloc, printed.format, printed.words)?;
     judge(alloc, b"printf", formatted.ending)?;
     pay(&formatted.text, budget, steps)?;
     let text = formatted.text.make(alloc)?;
-    assign(alloc, vars, name, index, text)?;
+    assign(alloc, vars, place.name, place.index, text)?;
     Ok(0)
 }
 

@@ -1,6 +1,6 @@
-use eb_bytes::{Bytes, Memory, words_of};
+use eb_bytes::{Bytes, words_of};
 use probe_base::{Answer, Fault};
-use shell_state::{Opts, Stop, fault_text};
+use shell_state::Opts;
 use std::alloc::Global;
 
 /// The options of which a text has the names are on.
@@ -39,18 +39,5 @@ pub(crate) fn put_options(opts: Opts, answer: &mut Answer) {
 fn put_where(on: bool, name: &str, answer: &mut Answer) {
     if on {
         answer.word(name);
-    }
-}
-
-/// Puts why a call gave no answer: a fault's text.
-pub(crate) fn put_stop(stop: &Stop, answer: &mut Answer) -> Result<(), Memory> {
-    match stop {
-        Stop::Fault(fault) => {
-            let text = fault_text(answer.alloc(), fault)?;
-            answer.word("fault");
-            answer.text(text.as_slice());
-            Ok(())
-        }
-        Stop::Failed | Stop::Memory => Err(Memory),
     }
 }

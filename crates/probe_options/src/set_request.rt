@@ -1,7 +1,8 @@
-use crate::given::{put_options, put_stop, read_options};
+use crate::given::{put_options, read_options};
 use bash_options::set_options;
 use eb_bytes::Bytes;
 use probe_base::{Answer, Fault};
+use probe_conditions::put_stop;
 
 /// `set ON WORD..`, where `ON` has the names of the options that are on: `ok` and the names of those that are on then,
 /// `parameters` and each that is given, where any are; or `fault` and its text.
@@ -13,7 +14,7 @@ pub fn set(on: &[u8], words: &[Bytes], answer: &mut Answer) -> Result<(), Fault>
             put_options(opts, answer);
             put_parameters(parameters, answer);
         }
-        Err(stop) => put_stop(&stop, answer)?,
+        Err(stop) => put_stop(&stop, answer),
     }
     Ok(())
 }

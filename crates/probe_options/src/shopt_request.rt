@@ -1,8 +1,9 @@
 ghost use Rattle.std.specs.Prelude.{◌≡◌, ◌<◌};
 
-use crate::given::{put_options, put_stop, read_options};
-use eb_bytes::{Budget, Bytes, Memory, Steps};
+use crate::given::{put_options, read_options};
+use eb_bytes::{Budget, Bytes, Steps};
 use probe_base::{Answer, Fault};
+use probe_conditions::put_stop;
 use shell_state::{Io, Opts, Target};
 use std::marker::Brand;
 use std::sync::ledger::{Blank, Ledger};
@@ -17,7 +18,8 @@ pub fn shopt(on: &[u8], words: &[Bytes], answer: &mut Answer) -> Result<(), Faul
     let mut io = Io::new(answer.alloc());
     io.captures.begin()?;
     io.out = Target::Capture(0);
-    Ok(call::<Brand>(words, opts, &mut io, Blank::new(1), answer)?)
+    call::<Brand>(words, opts, &mut io, Blank::new(1), answer);
+    Ok(())
 }
 
 fn call<L: Ledger>(
@@ -26,7 +28,7 @@ fn call<L: Ledger>(
     io: &mut Io,
     blank: Blank,
     answer: &mut Answer,
-) -> Result<(), Memory>
+)
     requires name { blank.name ≡ L.name }
     requires parts { blank.parts ≡ L.parts }
     requires some { 0 < blank.parts }
@@ -41,7 +43,6 @@ fn call<L: Ledger>(
             put_printed(io, answer);
             answer.number(budget.used());
             put_options(opts, answer);
-            Ok(())
         }
         Err(stop) => put_stop(&stop, answer),
     }

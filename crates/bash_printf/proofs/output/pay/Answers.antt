@@ -1,4 +1,3 @@
-use Rattle.std.proofs.Common.{◌≡◌, ◌≤◌}
 use Rattle.shell_state.specs.Spending.{text_cost}
 use Rattle.bash_printf.proofs.Paid.{costs_most, more_is_kept}
 use Rattle.bash_printf.proofs.output.pay.Goals as goal
