@@ -22,13 +22,7 @@ pub fn shopt(on: &[u8], words: &[Bytes], answer: &mut Answer) -> Result<(), Faul
     Ok(())
 }
 
-fn call<L: Ledger>(
-    words: &[Bytes],
-    mut opts: Opts,
-    io: &mut Io,
-    blank: Blank,
-    answer: &mut Answer,
-)
+fn call<L: Ledger>(words: &[Bytes], mut opts: Opts, io: &mut Io, blank: Blank, answer: &mut Answer)
     requires name { blank.name ≡ L.name }
     requires parts { blank.parts ≡ L.parts }
     requires some { 0 < blank.parts }

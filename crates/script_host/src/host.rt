@@ -1,6 +1,6 @@
-ghost use Rattle.std.specs.Prelude.{◌≡◌, [], Some};
-ghost use Rattle.script_host.specs.Host.{asked_only, commands_of, saved_with};
-ghost use Rattle.shell_host.specs.Hosts.{opened_before};
+ghost use Rattle.std.specs.Prelude.{◌≡◌, ◌↔◌, [], IsTrue, Some};
+ghost use Rattle.script_host.specs.Host.{all_end, asked_only, commands_of, saved_with};
+ghost use Rattle.shell_host.specs.Hosts.{MayFinish, opened_before};
 
 use crate::scripts::Scripts;
 use eb_bytes::{Budget, Bytes, Memory, Steps};
@@ -67,6 +67,7 @@ impl Host for ScriptHost {
 
     ghost may_fail = { λ _. false };
 
+    #[tactic(auto, using(crate::proofs::Open::handed, crate::proofs::Open::opened_one))]
     fn begin<L: Ledger>(
         &mut self,
         call: &HostCall<'_>,
@@ -87,6 +88,7 @@ impl Host for ScriptHost {
         Ok(HostStep::Source(script))
     }
 
+    #[tactic(auto, using(crate::proofs::Open::as_many))]
     fn finish<L: Ledger>(
         &mut self,
         status: u8,
@@ -96,7 +98,7 @@ impl Host for ScriptHost {
         _budget: &mut Budget,
         _steps: &mut Steps<L>,
     ) -> Result<HostStep, Stop> {
-        if self.running <= self.open_outside() {
+        if !self.may_finish() {
             return Ok(HostStep::NotMine);
         }
         self.running -= 1;
@@ -106,6 +108,7 @@ impl Host for ScriptHost {
         })
     }
 
+    #[tactic(auto, using(crate::proofs::Open::saved_now))]
     fn open_sub(&mut self) -> Result<(), Memory> {
         self.subshells.push_front(self.running)?;
         Ok(())
@@ -127,5 +130,13 @@ impl ScriptHost {
             Some(count) => *count,
             None => 0,
         }
+    }
+
+    // Whether a script is open that was handed out since the innermost subshell began.
+    #[tactic(auto, using(crate::proofs::Open::may_finish, crate::proofs::Open::is_open))]
+    fn may_finish(&self) -> bool
+        ensures { IsTrue result ↔ MayFinish (saved_with self.now.subshells.items) (all_end self.now.running) }
+    {
+        self.running > self.open_outside()
     }
 }
