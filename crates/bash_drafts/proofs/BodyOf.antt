@@ -1,8 +1,7 @@
 -- The body of a mark, beside a loop over the bodies.
-use Rattle.std.proofs.Common.{◌≡◌, ℕ, suc, ◌+◌, ◌<◌, ◌≤◌, ◌==◌, true, false, List, [], ◌∷◌, length, get_or, drop, Option, Some, None, ap, ◌∙◌, sym, refl, arith, drop-cons}
+use Rattle.std.proofs.Common.{◌≡◌, ℕ, suc, ◌+◌, ◌<◌, ◌≤◌, ◌==◌, true, false, List, ◌∷◌, length, get_or, drop, Some, None, ap, ◌∙◌, sym, refl, arith, drop-cons}
 use Rattle.std.proofs.lemmas.List.{drop_all}
 use Rattle.eb_syntax.specs.declared.tree.HereBody.{HereBody}
-use Rattle.eb_syntax.specs.Tree.{HereText}
 use Rattle.eb_grammar.specs.Fill.{body_of}
 
 plus : (n : ℕ) → suc n ≡ n + 1

@@ -1,7 +1,7 @@
 -- Lists that are emptied from their end: what was found, and what is left.
-use Rattle.std.proofs.Common.{◌≡◌, List, [], ◌∷◌, ◌++◌, map, ap, sym, ◌∙◌, refl, append_assoc, append-nil}
+use Rattle.std.proofs.Common.{◌≡◌, List, [], ◌∷◌, ◌++◌, map, ap, sym, ◌∙◌, append_assoc, append-nil}
 use Rattle.std.specs.Prelude.{reverse}
-use Rattle.std.proofs.lemmas.List.{map-append, reverse-append, reverse-reverse}
+use Rattle.std.proofs.lemmas.List.{reverse-append, reverse-reverse}
 
 module _ {A : Type 0} (rest old : List A) (x : A) (is : old ≡ rest ++ x ∷ []) where
   last_first : reverse old ≡ x ∷ reverse rest

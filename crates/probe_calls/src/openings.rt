@@ -1,6 +1,5 @@
 //! What is opened and closed.
 
-ghost use Rattle.std.specs.Prelude.{◌≡◌};
 
 use crate::values::{read_args, read_count};
 use bash_calls::{Args, Calls, Open};

@@ -1,6 +1,5 @@
 //! Arguments and numbers.
 
-ghost use Rattle.std.specs.Prelude.{◌≡◌, ◌≤◌, length};
 
 use bash_calls::{Args, Calls};
 use eb_bytes::{Bytes, read_decimal};

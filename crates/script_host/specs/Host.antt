@@ -1,5 +1,5 @@
 -- What a host over scripts does.
-use Rattle.std.specs.Prelude.{◌≡◌, ℕ, zero, suc, Bool, List, [], ◌∷◌, ◌++◌, length, map, Option, None, Some}
+use Rattle.std.specs.Prelude.{ℕ, zero, suc, List, [], ◌∷◌, ◌++◌, length, map, Option, None, Some}
 use Rattle.eb_bytes.specs.Text.{Text}
 use Rattle.eb_grammar.specs.Parsed.{ParsedText}
 use Rattle.shell_state.specs.State.{Context, State}

@@ -1,11 +1,11 @@
 -- The commands of a host over scripts give no steps back, and lose no name that was asked.
-use Rattle.std.proofs.Common.{◌≡◌, ◌≤◌, Bool, List, [], ◌∷◌, ◌++◌, Option, None, Some, refl, subst, sym, append-nil, arith}
+use Rattle.std.proofs.Common.{◌≡◌, Bool, List, [], ◌∷◌, Option, None, Some, refl, subst, sym, append-nil, arith}
 use Rattle.eb_bytes.specs.Text.{Text}
 use Rattle.eb_grammar.specs.Parsed.{ParsedText}
 use Rattle.shell_state.specs.State.{State}
 use Rattle.shell_state.specs.Host.{Begins, Lasts, Later}
 use Rattle.shell_host.specs.NoHost.{Last}
-use Rattle.script_host.specs.Host.{asking, commands_of, handed_out}
+use Rattle.script_host.specs.Host.{commands_of, handed_out}
 use Rattle.script_host.specs.Scripts.{found}
 use Rattle.script_host.specs.declared.host.ScriptHost.{ScriptHost}
 
