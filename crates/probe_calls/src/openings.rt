@@ -1,6 +1,5 @@
 //! What is opened and closed.
 
-
 use crate::values::{read_args, read_count};
 use bash_calls::{Args, Calls, Open};
 use probe_base::{Answer, Fault, cut};

@@ -1,6 +1,5 @@
 //! Arguments and numbers.
 
-
 use bash_calls::{Args, Calls};
 use eb_bytes::{Bytes, read_decimal};
 use probe_base::{Answer, Fault, cut, parts, read_texts};
