@@ -23,15 +23,16 @@ pub fn declaration_of(name: &[u8]) -> Result<DeclName, Fault> {
 
 /// How many of the words are options: those with a sign and letters that stand before all others.
 pub fn count_options(words: &[Bytes]) -> usize {
-    let mut count = 0;
-    for word in words {
-        match word.as_slice() {
-            [b'-', b'-'] => return count,
-            [b'-' | b'+', _, ..] => count += 1,
-            _ => return count,
-        }
+    let end = words.iter().position(|word| !is_option(word.as_slice()));
+    end.unwrap_or(words.len())
+}
+
+fn is_option(word: &[u8]) -> bool {
+    match word {
+        [b'-', b'-'] => false,
+        [b'-' | b'+', _, ..] => true,
+        _ => false,
     }
-    count
 }
 
 /// The words after the options, as arguments; a `--` at their beginning is none.

@@ -29,7 +29,7 @@ pub saved_now : (asked : List Text) (n : ℕ) (counts : List ℕ)
 saved_now asked n counts = ap (λ k. record { context = asked_only []; scripts = k } ∷ saved_with counts) (sym (as_many n))
 
 module _ (name : Text) (p : ParsedText) (args : List Text) (plain : Bool) (at after : State) where
-  GivesIt : Option Begins → Type 0
+  abbrev GivesIt : Option Begins → Type 0
   GivesIt None = Unit {0}
   GivesIt (Some b) = b plain name args at ≡ Sourced p.script (length p.text) after ends
 

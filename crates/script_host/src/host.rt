@@ -108,7 +108,6 @@ impl Host for ScriptHost {
         })
     }
 
-    #[tactic(auto, using(crate::proofs::Open::saved_now))]
     fn open_sub(&mut self) -> Result<(), Memory> {
         self.subshells.push_front(self.running)?;
         Ok(())

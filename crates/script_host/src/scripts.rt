@@ -62,7 +62,8 @@ impl Scripts {
     pub fn find(&self, name: &[u8]) -> Option<&Shared<Parsed>>
         ensures { option_copied result ≡ found name.now self.now }
     {
-        for script in &self.scripts {
+        let scripts = self.scripts.as_slice();
+        for script in scripts {
             if script.name.as_slice() == name {
                 return Some(&script.parsed);
             }
