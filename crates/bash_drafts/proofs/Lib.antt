@@ -1,2 +1,0 @@
-pub mod BodyOf
-pub mod Reversed
