@@ -67,7 +67,7 @@ impl Host for ScriptHost {
 
     ghost may_fail = { λ _. false };
 
-    #[tactic(auto, using(crate::proofs::Open::handed, crate::proofs::Open::opened_one))]
+    #[tactic(auto, using(crate::proofs::Open::opened_one))]
     fn begin<L: Ledger>(
         &mut self,
         call: &HostCall<'_>,
