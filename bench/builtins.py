@@ -1,7 +1,7 @@
 #!/usr/bin/env python3
 """Usage: builtins.py [PROGRAM [RUNS]]
 
-Times what `printf` and `echo` print and what `read` gives to names, of texts of SIZE bytes and of twice that, as
+Times what `printf`, `echo` and `declare -p` print and what `read` gives to names, of texts of SIZE bytes and of twice that, as
 probe_times.py says. Ends with 1 where an answer is wrong, or where SIZE bytes take more than a second.
 """
 import sys
@@ -30,6 +30,7 @@ def requests(size):
     elements = b"".join(b" x[%d]=64" % index for index in range(size // 2))
     yield "read of an array", reads(line, [b"-a", b"x"]), taken(line, elements)
     yield "read of one field", reads(text, [b"x"]), taken(text, b" x=" + hexadecimal(text))
+    yield "an array declared and shown", declares(size // 16), shown(size // 16)
 
 
 def fields(words):
@@ -45,6 +46,19 @@ def printf(form, words):
 def reads(line, words):
     """A request"""
     return b"reads " + hexadecimal(line + b"\n") + b" unset" + fields(words)
+
+
+def declares(count):
+    """A request: an array of so many elements, and what `declare -p` shows of it"""
+    array = b"x=(" + b" ".join([b"e"] * count) + b")"
+    words = [[b"declare", array], [b"declare", b"-p", b"x"]]
+    return b"declares" + b"".join(b" do:" + b",".join(hexadecimal(word) for word in call) for call in words)
+
+
+def shown(count):
+    """The answer to that"""
+    text = b"declare -a x=(" + b" ".join(b'[%d]="e"' % index for index in range(count)) + b")\n"
+    return b"ok 0 - ok 0 %s steps %d" % (hexadecimal(text), (len(text) + 1) // 64)
 
 
 def printed(text):
