@@ -1,0 +1,24 @@
+-- Parts of rules that have a reader of their own.
+use Rattle.std.specs.Prelude.{ℕ}
+use Rattle.eb_syntax.specs.declared.tree.Not.{Not}
+use Rattle.eb_syntax.specs.Tree.{And, Or}
+use Rattle.eb_grammar.specs.Peg.{Rule, ◌>>◌, lit, nest}
+use Rattle.eb_grammar.specs.Grammar.{inside}
+use Rattle.eb_grammar.specs.Conditions.{and, condition_group, negation, not}
+use Rattle.eb_grammar.specs.HereDocuments.{lines}
+
+-- ^("(" Lines Or Lines ")")
+abbrev pub group_at : ℕ → Rule Or
+group_at n = nest (inside n) (lit "(") condition_group
+
+-- ^("!" &Blank Lines Not)
+abbrev pub negation_at : ℕ → Rule Not
+negation_at n = nest (inside n) (lit "!") negation
+
+-- Lines "&&" Lines Not
+abbrev pub and_next : ℕ → Rule Not
+and_next n = lines (inside n) >> lit "&&" >> lines (inside n) >> not (inside n)
+
+-- Lines "||" Lines And
+abbrev pub or_next : ℕ → Rule And
+or_next n = lines (inside n) >> lit "||" >> lines (inside n) >> and (inside n)
