@@ -2,7 +2,7 @@
 use Rattle.std.specs.Prelude.{ℕ}
 use Rattle.eb_syntax.specs.declared.tree.Not.{Not}
 use Rattle.eb_syntax.specs.Tree.{And, Or}
-use Rattle.eb_grammar.specs.Peg.{Rule, ◌>>◌, lit, nest}
+use Rattle.eb_grammar.specs.Peg.{Rule, ◌>>◌, followed_by, lit, nest}
 use Rattle.eb_grammar.specs.Grammar.{inside}
 use Rattle.eb_grammar.specs.Conditions.{and, condition_group, negation, not}
 use Rattle.eb_grammar.specs.HereDocuments.{lines}
@@ -15,10 +15,22 @@ group_at n = nest (inside n) (lit "(") condition_group
 abbrev pub negation_at : ℕ → Rule Not
 negation_at n = nest (inside n) (lit "!") negation
 
--- Lines "&&" Lines Not
+-- "&&" Lines Not
 abbrev pub and_next : ℕ → Rule Not
-and_next n = lines (inside n) >> lit "&&" >> lines (inside n) >> not (inside n)
+and_next n = lit "&&" >> lines (inside n) >> not (inside n)
 
--- Lines "||" Lines And
+-- "&&" Lines Not Lines
+abbrev pub and_step : ℕ → Rule Not
+and_step n = followed_by (and_next n) (lines (inside n))
+
+-- And Lines
+abbrev pub and_lines : ℕ → Rule And
+and_lines n = followed_by (and (inside n)) (lines (inside n))
+
+-- "||" Lines And
 abbrev pub or_next : ℕ → Rule And
-or_next n = lines (inside n) >> lit "||" >> lines (inside n) >> and (inside n)
+or_next n = lit "||" >> lines (inside n) >> and (inside n)
+
+-- "||" Lines And Lines
+abbrev pub or_step : ℕ → Rule And
+or_step n = followed_by (or_next n) (lines (inside n))

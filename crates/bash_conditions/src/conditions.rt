@@ -2,8 +2,8 @@
 
 ghost use Rattle.std.specs.Prelude.{◌+◌, ◌<◌};
 ghost use Rattle.bash_cursor.specs.Reads.{ReadsBelow, ReadsMarks};
-ghost use Rattle.bash_conditions.specs.Parts.{and_next, group_at, negation_at, or_next};
-ghost use Rattle.bash_reading.specs.At.{lines_at, negatable_at, or_at, regex_at, word_at};
+ghost use Rattle.bash_conditions.specs.Parts.{and_lines, and_step, group_at, negation_at, or_step};
+ghost use Rattle.bash_reading.specs.At.{lines_at, negatable_at, or_lines_at, regex_at, word_at};
 ghost use Rattle.bash_reading.specs.Marks.{ReadsMarksBelow};
 ghost use Rattle.eb_grammar.specs.Conditions as conditions;
 ghost use Rattle.eb_grammar.specs.Grammar.{inside, rules_in};
@@ -16,20 +16,19 @@ use eb_syntax::{And, Not, Or, Primary, Regex, Word};
 use sqlite_items::Items as List;
 
 // A condition in parentheses whose nesting is open.
-#[tactic(auto, unfolding(eb_grammar::specs::Conditions::condition_group))]
+#[tactic(auto, using(crate::proofs::Joined::group_is))]
 fn group_inside<
     L: Fn(&mut Cursor<'_>) -> Result<(), LexErr>,
     O: Fn(&mut Cursor<'_>) -> Result<Or, LexErr>,
 >(c: &mut Cursor<'_>, lines: &L, or: &O) -> Result<Or, LexErr>
     requires between { ReadsMarksBelow lines_at (c.old.room + 1) (L.pre lines.now) (L.post lines.now) }
-    requires conditions { ReadsMarksBelow or_at (c.old.room + 1) (O.pre or.now) (O.post or.now) }
+    requires conditions { ReadsMarksBelow or_lines_at (c.old.room + 1) (O.pre or.now) (O.post or.now) }
     ensures { ReadsMarks (conditions.condition_group (rules_in (inside c.old.room))) c.old result c.new }
 {
     let saved = c.save()?;
     c.literal(b"(")?;
     or_restore!(c, saved, lines(c));
     let found = or_restore!(c, saved, or(c));
-    or_restore!(c, saved, lines(c));
     or_restore!(c, saved, c.literal(b")"));
     Ok(found)
 }
@@ -41,7 +40,7 @@ fn group<
     O: Fn(&mut Cursor<'_>) -> Result<Or, LexErr>,
 >(c: &mut Cursor<'_>, lines: &L, or: &O) -> Result<Or, LexErr>
     requires between { ReadsMarksBelow lines_at c.old.room (L.pre lines.now) (L.post lines.now) }
-    requires conditions { ReadsMarksBelow or_at c.old.room (O.pre or.now) (O.post or.now) }
+    requires conditions { ReadsMarksBelow or_lines_at c.old.room (O.pre or.now) (O.post or.now) }
     ensures { ReadsMarks (group_at c.old.room) c.old result c.new }
 {
     if !c.sees(b"(") {
@@ -102,7 +101,7 @@ fn primary<
     requires words { ReadsBelow word_at (c.old.room + 1) (W.pre word.now) (W.post word.now) }
     requires regexes { ReadsBelow regex_at (c.old.room + 1) (R.pre regex.now) (R.post regex.now) }
     requires between { ReadsMarksBelow lines_at c.old.room (L.pre lines.now) (L.post lines.now) }
-    requires conditions { ReadsMarksBelow or_at c.old.room (O.pre or.now) (O.post or.now) }
+    requires conditions { ReadsMarksBelow or_lines_at c.old.room (O.pre or.now) (O.post or.now) }
     ensures { ReadsMarks (conditions.prim (inside c.old.room)) c.old result c.new }
 {
     let saved = c.save()?;
@@ -127,7 +126,7 @@ fn not_by<
     requires words { ReadsBelow word_at (c.old.room + 1) (W.pre word.now) (W.post word.now) }
     requires regexes { ReadsBelow regex_at (c.old.room + 1) (R.pre regex.now) (R.post regex.now) }
     requires between { ReadsMarksBelow lines_at c.old.room (L.pre lines.now) (L.post lines.now) }
-    requires conditions { ReadsMarksBelow or_at c.old.room (O.pre or.now) (O.post or.now) }
+    requires conditions { ReadsMarksBelow or_lines_at c.old.room (O.pre or.now) (O.post or.now) }
     requires negations { ReadsMarksBelow negatable_at c.old.room (N.pre negated.now) (N.post negated.now) }
     ensures { ReadsMarks (negatable_at c.old.room) c.old result c.new }
 {
@@ -138,91 +137,93 @@ fn not_by<
     Ok(Not::Prim(primary(c, word, regex, lines, or)?))
 }
 
-// `&&` and the condition after it.
-fn and_next<
+// `&&` and the condition after it, with the lines round it.
+fn and_step<
     L: Fn(&mut Cursor<'_>) -> Result<(), LexErr>,
     N: Fn(&mut Cursor<'_>) -> Result<Not, LexErr>,
 >(c: &mut Cursor<'_>, lines: &L, not: &N) -> Result<Not, LexErr>
     requires between { ReadsMarksBelow lines_at (c.old.room + 1) (L.pre lines.now) (L.post lines.now) }
     requires conditions { ReadsMarksBelow negatable_at (c.old.room + 1) (N.pre not.now) (N.post not.now) }
-    ensures { ReadsMarks (and_next c.old.room) c.old result c.new }
+    ensures { ReadsMarks (and_step c.old.room) c.old result c.new }
 {
     let saved = c.save()?;
-    lines(c)?;
-    or_restore!(c, saved, c.literal(b"&&"));
+    c.literal(b"&&")?;
     or_restore!(c, saved, lines(c));
-    Ok(or_restore!(c, saved, not(c)))
+    let found = or_restore!(c, saved, not(c));
+    or_restore!(c, saved, lines(c));
+    Ok(found)
 }
 
 #[tactic(auto, using(bash_cursor::proofs::Turns::turn_go, bash_cursor::proofs::Turns::turn_no, bash_cursor::proofs::Turns::turn_deep, bash_cursor::proofs::Turns::turn_out))]
-fn and_others<
+fn and_steps<
     L: Fn(&mut Cursor<'_>) -> Result<(), LexErr>,
     N: Fn(&mut Cursor<'_>) -> Result<Not, LexErr>,
 >(c: &mut Cursor<'_>, lines: &L, not: &N) -> Result<List<Not>, LexErr>
     requires between { ReadsMarksBelow lines_at (c.old.room + 1) (L.pre lines.now) (L.post lines.now) }
     requires conditions { ReadsMarksBelow negatable_at (c.old.room + 1) (N.pre not.now) (N.post not.now) }
-    ensures { ReadsMarks (many (and_next c.old.room)) c.old result c.new }
+    ensures { ReadsMarks (many (and_step c.old.room)) c.old result c.new }
 {
-    repeat_marks!(c, and_next(c, lines, not))
+    repeat_marks!(c, and_step(c, lines, not))
 }
 
-// Conditions joined by `&&`.
-#[tactic(auto, unfolding(eb_grammar::specs::Conditions::and))]
-fn and_by<
+// Conditions joined by `&&`, with the lines after them.
+#[tactic(auto, using(crate::proofs::Joined::and_lines_is))]
+fn and_lines<
     L: Fn(&mut Cursor<'_>) -> Result<(), LexErr>,
     N: Fn(&mut Cursor<'_>) -> Result<Not, LexErr>,
 >(c: &mut Cursor<'_>, lines: &L, not: &N) -> Result<And, LexErr>
     requires between { ReadsMarksBelow lines_at (c.old.room + 1) (L.pre lines.now) (L.post lines.now) }
     requires conditions { ReadsMarksBelow negatable_at (c.old.room + 1) (N.pre not.now) (N.post not.now) }
-    ensures { ReadsMarks (conditions.and (inside c.old.room)) c.old result c.new }
+    ensures { ReadsMarks (and_lines c.old.room) c.old result c.new }
 {
     let saved = c.save()?;
     let first = not(c)?;
-    let others = or_restore!(c, saved, and_others(c, lines, not));
+    or_restore!(c, saved, lines(c));
+    let others = or_restore!(c, saved, and_steps(c, lines, not));
     Ok(And { first, others })
 }
 
-// `||` and the conditions after it.
-fn or_next<
+// `||` and the conditions after it, with the lines round them.
+#[tactic(auto, using(crate::proofs::Joined::or_step_is))]
+fn or_step<
     L: Fn(&mut Cursor<'_>) -> Result<(), LexErr>,
     N: Fn(&mut Cursor<'_>) -> Result<Not, LexErr>,
 >(c: &mut Cursor<'_>, lines: &L, not: &N) -> Result<And, LexErr>
     requires between { ReadsMarksBelow lines_at (c.old.room + 1) (L.pre lines.now) (L.post lines.now) }
     requires conditions { ReadsMarksBelow negatable_at (c.old.room + 1) (N.pre not.now) (N.post not.now) }
-    ensures { ReadsMarks (or_next c.old.room) c.old result c.new }
+    ensures { ReadsMarks (or_step c.old.room) c.old result c.new }
 {
     let saved = c.save()?;
-    lines(c)?;
-    or_restore!(c, saved, c.literal(b"||"));
+    c.literal(b"||")?;
     or_restore!(c, saved, lines(c));
-    Ok(or_restore!(c, saved, and_by(c, lines, not)))
+    Ok(or_restore!(c, saved, and_lines(c, lines, not)))
 }
 
 #[tactic(auto, using(bash_cursor::proofs::Turns::turn_go, bash_cursor::proofs::Turns::turn_no, bash_cursor::proofs::Turns::turn_deep, bash_cursor::proofs::Turns::turn_out))]
-fn or_others<
+fn or_steps<
     L: Fn(&mut Cursor<'_>) -> Result<(), LexErr>,
     N: Fn(&mut Cursor<'_>) -> Result<Not, LexErr>,
 >(c: &mut Cursor<'_>, lines: &L, not: &N) -> Result<List<And>, LexErr>
     requires between { ReadsMarksBelow lines_at (c.old.room + 1) (L.pre lines.now) (L.post lines.now) }
     requires conditions { ReadsMarksBelow negatable_at (c.old.room + 1) (N.pre not.now) (N.post not.now) }
-    ensures { ReadsMarks (many (or_next c.old.room)) c.old result c.new }
+    ensures { ReadsMarks (many (or_step c.old.room)) c.old result c.new }
 {
-    repeat_marks!(c, or_next(c, lines, not))
+    repeat_marks!(c, or_step(c, lines, not))
 }
 
-// Conditions joined by `&&` and `||`.
-#[tactic(auto, unfolding(eb_grammar::specs::Conditions::or))]
-fn or_by<
+// Conditions joined by `&&` and `||`, with the lines after them.
+#[tactic(auto, using(crate::proofs::Joined::or_lines_is))]
+fn or_lines<
     L: Fn(&mut Cursor<'_>) -> Result<(), LexErr>,
     N: Fn(&mut Cursor<'_>) -> Result<Not, LexErr>,
 >(c: &mut Cursor<'_>, lines: &L, not: &N) -> Result<Or, LexErr>
     requires between { ReadsMarksBelow lines_at (c.old.room + 1) (L.pre lines.now) (L.post lines.now) }
     requires conditions { ReadsMarksBelow negatable_at (c.old.room + 1) (N.pre not.now) (N.post not.now) }
-    ensures { ReadsMarks (or_at c.old.room) c.old result c.new }
+    ensures { ReadsMarks (or_lines_at c.old.room) c.old result c.new }
 {
     let saved = c.save()?;
-    let first = and_by(c, lines, not)?;
-    let others = or_restore!(c, saved, or_others(c, lines, not));
+    let first = and_lines(c, lines, not)?;
+    let others = or_restore!(c, saved, or_steps(c, lines, not));
     Ok(Or { first, others })
 }
 
@@ -245,7 +246,7 @@ fn negatable<
         requires words { ReadsBelow word_at (c.old.room + 1) (W.pre word.now) (W.post word.now) }
         requires regexes { ReadsBelow regex_at (c.old.room + 1) (R.pre regex.now) (R.post regex.now) }
         requires between { ReadsMarksBelow lines_at (c.old.room + 1) (L.pre lines.now) (L.post lines.now) }
-        ensures { ReadsMarks (or_at c.old.room) c.old result c.new }
+        ensures { ReadsMarks (or_lines_at c.old.room) c.old result c.new }
     {
         let _ = &room;
         condition(c, word, regex, lines)
@@ -263,8 +264,9 @@ fn negatable<
     not_by(c, word, regex, lines, &inner, &negated)
 }
 
-/// What stands between `[[` and `]]`, without the lines round it (Bash Reference Manual, "Conditional Constructs"). Words,
-/// regular expressions and the lines between them are read by `word`, `regex` and `lines`.
+/// What stands between `[[` and `]]`, with the lines after it but not those before it (Bash Reference Manual, "Conditional
+/// Constructs"). Words, regular expressions and the lines between them are read by `word`, `regex` and `lines`. Lines are
+/// read once, whatever stands after them: the bodies of here-documents may stand in them.
 ///
 /// # Errors
 /// `NoParse` exactly where no condition stands at the place, `TooDeep` exactly where reading one would open more nestings
@@ -279,7 +281,7 @@ pub fn condition<
     requires words { ReadsBelow word_at (c.old.room + 1) (W.pre word.now) (W.post word.now) }
     requires regexes { ReadsBelow regex_at (c.old.room + 1) (R.pre regex.now) (R.post regex.now) }
     requires between { ReadsMarksBelow lines_at (c.old.room + 1) (L.pre lines.now) (L.post lines.now) }
-    ensures { ReadsMarks (or_at c.old.room) c.old result c.new }
+    ensures { ReadsMarks (or_lines_at c.old.room) c.old result c.new }
 {
     let room = c.room();
     let one = |c: &mut Cursor<'_>| -> Result<Not, LexErr>
@@ -292,5 +294,5 @@ pub fn condition<
         let _ = &room;
         negatable(c, word, regex, lines)
     };
-    or_by(c, lines, &one)
+    or_lines(c, lines, &one)
 }

@@ -1,0 +1,3 @@
+mod Joined
+mod LinesOnce
+mod Steps
