@@ -3,7 +3,7 @@
 ghost use Rattle.std.specs.Prelude.{◌≡◌, ◌+◌};
 ghost use Rattle.bash_cursor.specs.Reads.{Eats, Finds, Reads, ReadsBelow, ReadsMarks, Stands, passed};
 ghost use Rattle.bash_compounds.specs.Forms.{case_head, choices_at, open_pattern, other_pattern, patterns};
-ghost use Rattle.bash_reading.specs.At.{items_at, lines_at, or_at, word_at};
+ghost use Rattle.bash_reading.specs.At.{items_at, lines_at, or_lines_at, word_at};
 ghost use Rattle.bash_reading.specs.Marks.{ReadsMarksBelow, mapped};
 ghost use Rattle.eb_grammar.specs.Compounds as compounds;
 ghost use Rattle.eb_grammar.specs.Grammar.{inside, rules_in};
@@ -188,26 +188,25 @@ fn case_command<
 }
 
 // `[[ .. ]]`
-#[tactic(auto, unfolding(eb_grammar::specs::Compounds::test_command))]
+#[tactic(auto, using(crate::proofs::Tests::test_is))]
 fn test_command<
     L: Fn(&mut Cursor<'_>) -> Result<(), LexErr>,
     O: Fn(&mut Cursor<'_>) -> Result<Or, LexErr>,
 >(c: &mut Cursor<'_>, lines: &L, condition: &O) -> Result<Compound, LexErr>
     requires between { ReadsMarksBelow lines_at (c.old.room + 1) (L.pre lines.now) (L.post lines.now) }
-    requires conditions { ReadsMarksBelow or_at (c.old.room + 1) (O.pre condition.now) (O.post condition.now) }
+    requires conditions { ReadsMarksBelow or_lines_at (c.old.room + 1) (O.pre condition.now) (O.post condition.now) }
     ensures { ReadsMarks (compounds.test_command (rules_in (inside c.old.room))) c.old result c.new }
 {
     let saved = c.save()?;
     reserved_word(c, b"[[")?;
     or_restore!(c, saved, lines(c));
     let found = or_restore!(c, saved, condition(c));
-    or_restore!(c, saved, lines(c));
     or_restore!(c, saved, reserved_word(c, b"]]"));
     Ok(Compound::Test(found))
 }
 
-/// `case` or `[[`, whose nesting is open: the commands of a clause are read by `items`, words by `word`, a condition by
-/// `condition`, and what may stand between these by `lines`.
+/// `case` or `[[`, whose nesting is open: the commands of a clause are read by `items`, words by `word`, a condition and
+/// the lines after it by `condition`, and what else may stand between these by `lines`.
 ///
 /// # Errors
 /// `NoParse` exactly where none of these stands at the place, `TooDeep` exactly where reading it opens more nestings than
@@ -222,7 +221,7 @@ pub fn choices_of<
     requires lists { ReadsBelow items_at (c.old.room + 1) (I.pre items.now) (I.post items.now) }
     requires between { ReadsMarksBelow lines_at (c.old.room + 1) (L.pre lines.now) (L.post lines.now) }
     requires words { ReadsBelow word_at (c.old.room + 1) (W.pre word.now) (W.post word.now) }
-    requires conditions { ReadsMarksBelow or_at (c.old.room + 1) (O.pre condition.now) (O.post condition.now) }
+    requires conditions { ReadsMarksBelow or_lines_at (c.old.room + 1) (O.pre condition.now) (O.post condition.now) }
     ensures { ReadsMarks (choices_at c.old.room) c.old result c.new }
 {
     if let Some(found) = attempt!(case_command(c, items, lines, word)) {

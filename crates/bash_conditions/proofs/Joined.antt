@@ -10,7 +10,7 @@ use Rattle.bash_conditions.specs.Parts.{and_lines, and_next, and_step, or_next, 
 use Rattle.bash_conditions.proofs.LinesOnce.{all_once}
 use Rattle.bash_conditions.proofs.Steps.{and_takes, lines_keep, lines_read, or_takes}
 use Rattle.bash_reading.specs.At.{or_lines_at}
-use Rattle.bash_reading.proofs.Binds.{regrouped, then_same}
+use Rattle.bash_reading.proofs.Binds.{followed_then, regrouped, then_same}
 
 -- four rules in a row, grouped otherwise
 module _ {A B C D : Type 0} (l : Rule A) (b : Rule B) (c : Rule C) (d : Rule D) where
@@ -22,10 +22,6 @@ module _ {A B C D : Type 0} (l : Rule A) (b : Rule B) (c : Rule C) (d : Rule D) 
   grouped s = grouped_at (l s)
 
 module _ (n : ℕ) where
-  -- what follows a condition reads the lines after it
-  before_lines : {A B : Type 0} (p : Rule A) (f : A → Rule B) (s : Spot) → ((p >>= (λ x. lines (inside n) >> pure x)) >>= f) s ≡ (p >>= (λ x. lines (inside n) >> f x)) s
-  before_lines p f = regrouped p (λ x. lines (inside n) >> pure x) f (λ x. lines (inside n) >> f x) (λ x. regrouped (lines (inside n)) (λ _. pure x) f (λ _. f x) (λ _ t. refl))
-
   pub group_is : (s : Spot) → condition_group (rules_in (inside n)) s ≡ (do
     lit "("
     lines (inside n)
@@ -33,7 +29,7 @@ module _ (n : ℕ) where
     lit ")"
     pure found) s
   unfolding condition_group
-  group_is s = then_same _ _ (λ _ t. then_same _ _ (λ _ u. sym (before_lines (or (inside n)) (λ found. lit ")" >> pure found) u)) (lines (inside n) t)) (lit "(" s)
+  group_is s = then_same _ _ (λ _ t. then_same _ _ (λ _ u. sym (followed_then (or (inside n)) (lines (inside n)) (λ found. lit ")" >> pure found) u)) (lines (inside n) t)) (lit "(" s)
 
   abbrev and_of : Not → List Not → And
   and_of first others = record { first = first; others = others }
@@ -57,7 +53,7 @@ module _ (n : ℕ) where
     first ← and_lines n
     others ← many (or_step n)
     pure (or_of first others)) s
-  or_lines_is s = or_all s ∙ sym (before_lines (and (inside n)) (λ first. many (or_step n) >>= (λ others. pure (or_of first others))) s)
+  or_lines_is s = or_all s ∙ sym (followed_then (and (inside n)) (lines (inside n)) (λ first. many (or_step n) >>= (λ others. pure (or_of first others))) s)
 
   pub or_step_is : (s : Spot) → or_step n s ≡ (lit "||" >> lines (inside n) >> and_lines n) s
   or_step_is = regrouped (lit "||" >> lines (inside n)) (λ _. and (inside n)) _ (λ _. and_lines n) (λ _ t. refl)

@@ -3,7 +3,7 @@
 ghost use Rattle.std.specs.Prelude.{◌+◌, false};
 ghost use Rattle.bash_compounds.specs.Forms.{choices_at, groups_at, if_at, loops_at};
 ghost use Rattle.bash_cursor.specs.Reads.{Reads, ReadsBelow, ReadsMarks};
-ghost use Rattle.bash_reading.specs.At.{arith_part_at, arith_text_at, assign_at, body_at, command_at, compound_at, items_at, lines_at, newline_at, or_at, redir_at, word_at};
+ghost use Rattle.bash_reading.specs.At.{arith_part_at, arith_text_at, assign_at, body_at, command_at, compound_at, items_at, lines_at, newline_at, or_lines_at, redir_at, word_at};
 ghost use Rattle.eb_grammar.specs.Commands as commands;
 ghost use Rattle.eb_grammar.specs.Grammar.{inside};
 ghost use Rattle.eb_grammar.specs.Peg.{gather};
@@ -84,7 +84,7 @@ fn choice<
     let condition = |c: &mut Cursor<'_>| -> Result<Or, LexErr>
         requires lists { ReadsBelow items_at c.old.room (I.pre items.now) (I.post items.now) }
         requires bodies { ReadsBelow body_at c.old.room (O.pre body.now) (O.post body.now) }
-        ensures { ReadsMarks (or_at c.old.room) c.old result c.new }
+        ensures { ReadsMarks (or_lines_at c.old.room) c.old result c.new }
     { condition(c, items, body) };
     choices_of(c, items, &lines, &word, &condition)
 }

@@ -3,7 +3,7 @@
 ghost use Rattle.std.specs.Prelude.{◌+◌};
 ghost use Rattle.bash_cursor.specs.Reads.{Reads, ReadsBelow, ReadsMarks};
 ghost use Rattle.bash_lexer.specs.At.{piece_at, quoted_at, subscript_at};
-ghost use Rattle.bash_reading.specs.At.{assign_at, body_at, items_at, lines_at, newline_at, or_at, redir_at, regex_at, word_at};
+ghost use Rattle.bash_reading.specs.At.{assign_at, body_at, items_at, lines_at, newline_at, or_lines_at, redir_at, regex_at, word_at};
 
 use bash_cursor::{Cursor, LexErr};
 use eb_syntax::{Assign, Body, Items, Or, Piece, QPiece, Redir, Regex, Sub, Word};
@@ -121,7 +121,7 @@ pub fn assign<
     bash_redirs::assign(c, &piece, &subscript, &word, &lines)
 }
 
-/// What stands between `[[` and `]]`, without the lines round it.
+/// What stands between `[[` and `]]`, with the lines after it but not those before it.
 ///
 /// # Errors
 /// `NoParse` exactly where none stands at the place, `TooDeep` exactly where reading it opens more nestings than may be
@@ -133,7 +133,7 @@ pub fn condition<
 >(c: &mut Cursor<'_>, items: &I, body: &O) -> Result<Or, LexErr>
     requires lists { ReadsBelow items_at c.old.room (I.pre items.now) (I.post items.now) }
     requires bodies { ReadsBelow body_at c.old.room (O.pre body.now) (O.post body.now) }
-    ensures { ReadsMarks (or_at c.old.room) c.old result c.new }
+    ensures { ReadsMarks (or_lines_at c.old.room) c.old result c.new }
 {
     let word = |c: &mut Cursor<'_>| -> Result<Word, LexErr>
         requires lists { ReadsBelow items_at c.old.room (I.pre items.now) (I.post items.now) }

@@ -53,7 +53,7 @@ fn script_of(alloc: Global, text: &[u8]) -> Result<Script, ParseErr>
     match bash_bodies::closed(alloc, found, own) {
         Ok(node) => Ok(node),
         Err(LexErr::Memory) => Err(ParseErr::Memory),
-        Err(_) => Err(ParseErr::Refused { line }),
+        Err(LexErr::NoParse | LexErr::TooDeep { .. }) => Err(ParseErr::Refused { line }),
     }
 }
 
