@@ -17,6 +17,4 @@ Parses (Err e.Memory) r = Unit {0}
 -- the same, where the script is kept with its text
 abbrev pub ParsesTo : Text → Result ParsedText ParseErr → Reading → Type 0
 ParsesTo text (Ok p) r = (p.text ≡ text) × (r ≡ Node p.script)
-ParsesTo text (Err (e.Refused line)) r = r ≡ Refused line
-ParsesTo text (Err (e.TooDeep line)) r = r ≡ TooDeep line
-ParsesTo text (Err e.Memory) r = Unit {0}
+ParsesTo text (Err why) r = Parses (Err why) r
