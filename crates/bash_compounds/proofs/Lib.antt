@@ -1,2 +1,3 @@
+mod Followed
 pub mod Forms
 mod Tests

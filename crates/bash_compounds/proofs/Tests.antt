@@ -7,8 +7,9 @@ use Rattle.eb_grammar.specs.Grammar.{inside, rules_in}
 use Rattle.eb_grammar.specs.HereDocuments.{lines}
 use Rattle.eb_grammar.specs.Names.{kw}
 use Rattle.eb_grammar.specs.Peg.{Spot, ◌>>=◌, ◌>>◌, pure}
-use Rattle.bash_reading.specs.At.{or_lines_at}
-use Rattle.bash_reading.proofs.Binds.{followed_then, then_same}
+use Rattle.bash_compounds.specs.Forms.{or_lines_at}
+use Rattle.bash_compounds.proofs.Followed.{followed_then}
+use Rattle.bash_reading.proofs.Binds.{then_same}
 
 pub test_is : (n : ℕ) (s : Spot) → test_command (rules_in (inside n)) s ≡ (do
   kw "[["
@@ -16,5 +17,5 @@ pub test_is : (n : ℕ) (s : Spot) → test_command (rules_in (inside n)) s ≡ 
   condition ← or_lines_at n
   kw "]]"
   pure (c.Test condition)) s
-unfolding test_command
+unfolding test_command or_lines_at
 test_is n s = then_same _ _ (λ _ t. then_same _ _ (λ _ u. sym (followed_then (or (inside n)) (lines (inside n)) (λ condition. kw "]]" >> pure (c.Test condition)) u)) (lines (inside n) t)) (kw "[[" s)

@@ -3,13 +3,15 @@ use Rattle.std.specs.Prelude.{ℕ, List, Option, Some, None}
 use Rattle.eb_syntax.specs.declared.parts.Blank.{Blank}
 use Rattle.eb_syntax.specs.declared.tree.Compound.{Compound}
 use Rattle.eb_syntax.specs.declared.tree.Word.{Word}
-use Rattle.eb_syntax.specs.Tree.{ArithText, Body}
+use Rattle.eb_syntax.specs.Tree.{ArithText, Body, Or}
 use Rattle.eb_grammar.specs.declared.class.Class.TheVariants as class
 use Rattle.eb_grammar.specs.Classes.{byte}
 use Rattle.eb_grammar.specs.Compounds.{Loop, arith_command, arith_for, braces, case_command, do_done, for_loop, if_command, in_words, select_loop, subshell, test_command, until_loop, while_loop}
+use Rattle.eb_grammar.specs.Conditions.{or}
 use Rattle.eb_grammar.specs.Grammar.{inside, rules_in}
+use Rattle.eb_grammar.specs.HereDocuments.{lines}
 use Rattle.eb_grammar.specs.Names.{blanks, kw}
-use Rattle.eb_grammar.specs.Peg.{Rule, ◌>>=◌, ◌>>◌, ◌<$>◌, ◌</>◌, pure, maybe, stands, at, many, lit}
+use Rattle.eb_grammar.specs.Peg.{Rule, ◌>>=◌, ◌>>◌, ◌<$>◌, ◌</>◌, pure, followed_by, maybe, stands, at, many, lit}
 use Rattle.eb_grammar.specs.Rules.{Rules}
 
 -- ---- the forms
@@ -87,6 +89,12 @@ blank_word inside = blanks >> inside.word
 -- Lines Kw("in") (B Word)* B (";" / &[\n#]) / B ";"?
 abbrev pub loop_words : Rules → Rule (Option (List Word))
 loop_words inside = Some <$> in_words inside </> blanks >> stands (lit ";") >> pure None
+
+-- ---- parts of `[[`
+
+-- Or Lines
+unfoldable pub or_lines_at : ℕ → Rule Or
+or_lines_at n = followed_by (or (inside n)) (lines (inside n))
 
 -- ---- parts of `case`
 

@@ -2,8 +2,8 @@
 
 ghost use Rattle.std.specs.Prelude.{◌≡◌, ◌+◌};
 ghost use Rattle.bash_cursor.specs.Reads.{Eats, Finds, Reads, ReadsBelow, ReadsMarks, Stands, passed};
-ghost use Rattle.bash_compounds.specs.Forms.{case_head, choices_at, open_pattern, other_pattern, patterns};
-ghost use Rattle.bash_reading.specs.At.{items_at, lines_at, or_lines_at, word_at};
+ghost use Rattle.bash_compounds.specs.Forms.{case_head, choices_at, open_pattern, or_lines_at, other_pattern, patterns};
+ghost use Rattle.bash_reading.specs.At.{items_at, lines_at, word_at};
 ghost use Rattle.bash_reading.specs.Marks.{ReadsMarksBelow, mapped};
 ghost use Rattle.eb_grammar.specs.Compounds as compounds;
 ghost use Rattle.eb_grammar.specs.Grammar.{inside, rules_in};

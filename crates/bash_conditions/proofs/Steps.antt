@@ -75,22 +75,24 @@ module _ (n : ℕ) where
 
   module _ (place line : ℕ) (waiting : List HereMark) (bodies : List HereBody) where
     and_ends : (rest : Text) → length rest ≡ 0 → (single <$> and_step n) (record { rest = rest; place = place; line = line; waiting = waiting; bodies = bodies }) ≡ Err No
-    unfolding word_of sees
+    unfolding and_step word_of sees
     and_ends [] e = refl
     and_ends (b ∷ rest) e = absurd (omega (arith, e))
 
     or_ends : (rest : Text) → length rest ≡ 0 → (single <$> or_step n) (record { rest = rest; place = place; line = line; waiting = waiting; bodies = bodies }) ≡ Err No
-    unfolding word_of sees
+    unfolding or_step word_of sees
     or_ends [] e = refl
     or_ends (b ∷ rest) e = absurd (omega (arith, e))
 
   pub and_takes : TakesBytes (single <$> and_step n)
+  unfolding and_step
   and_takes = record {
     takes = map-t _ (followed-t (bind-t (bind-t (word-t _ _) (λ _. lines_keep)) (λ _. weak nots_take)) lines_keep);
     stops = λ s e. and_ends s.place s.line s.waiting s.bodies s.rest e;
   }
 
   pub or_takes : TakesBytes (single <$> or_step n)
+  unfolding or_step
   or_takes = record {
     takes = map-t _ (followed-t (bind-t (bind-t (word-t _ _) (λ _. lines_keep)) (λ _. weak ands_take)) lines_keep);
     stops = λ s e. or_ends s.place s.line s.waiting s.bodies s.rest e;

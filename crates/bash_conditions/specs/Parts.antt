@@ -4,7 +4,7 @@ use Rattle.eb_syntax.specs.declared.tree.Not.{Not}
 use Rattle.eb_syntax.specs.Tree.{And, Or}
 use Rattle.eb_grammar.specs.Peg.{Rule, ◌>>◌, followed_by, lit, nest}
 use Rattle.eb_grammar.specs.Grammar.{inside}
-use Rattle.eb_grammar.specs.Conditions.{and, condition_group, negation, not}
+use Rattle.eb_grammar.specs.Conditions.{and, condition_group, negation, not, or}
 use Rattle.eb_grammar.specs.HereDocuments.{lines}
 
 -- ^("(" Lines Or Lines ")")
@@ -20,11 +20,11 @@ abbrev pub and_next : ℕ → Rule Not
 and_next n = lit "&&" >> lines (inside n) >> not (inside n)
 
 -- "&&" Lines Not Lines
-abbrev pub and_step : ℕ → Rule Not
+unfoldable pub and_step : ℕ → Rule Not
 and_step n = followed_by (and_next n) (lines (inside n))
 
 -- And Lines
-abbrev pub and_lines : ℕ → Rule And
+unfoldable pub and_lines : ℕ → Rule And
 and_lines n = followed_by (and (inside n)) (lines (inside n))
 
 -- "||" Lines And
@@ -32,5 +32,9 @@ abbrev pub or_next : ℕ → Rule And
 or_next n = lit "||" >> lines (inside n) >> and (inside n)
 
 -- "||" Lines And Lines
-abbrev pub or_step : ℕ → Rule And
+unfoldable pub or_step : ℕ → Rule And
 or_step n = followed_by (or_next n) (lines (inside n))
+
+-- Or Lines
+unfoldable pub or_lines : ℕ → Rule Or
+or_lines n = followed_by (or (inside n)) (lines (inside n))

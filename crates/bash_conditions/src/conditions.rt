@@ -2,8 +2,8 @@
 
 ghost use Rattle.std.specs.Prelude.{◌+◌, ◌<◌};
 ghost use Rattle.bash_cursor.specs.Reads.{ReadsBelow, ReadsMarks};
-ghost use Rattle.bash_conditions.specs.Parts.{and_lines, and_step, group_at, negation_at, or_step};
-ghost use Rattle.bash_reading.specs.At.{lines_at, negatable_at, or_lines_at, regex_at, word_at};
+ghost use Rattle.bash_conditions.specs.Parts.{and_lines, and_step, group_at, negation_at, or_lines, or_step};
+ghost use Rattle.bash_reading.specs.At.{lines_at, negatable_at, regex_at, word_at};
 ghost use Rattle.bash_reading.specs.Marks.{ReadsMarksBelow};
 ghost use Rattle.eb_grammar.specs.Conditions as conditions;
 ghost use Rattle.eb_grammar.specs.Grammar.{inside, rules_in};
@@ -11,7 +11,7 @@ ghost use Rattle.eb_grammar.specs.Peg.{many};
 
 use crate::primaries::{unary_test, word_test};
 use bash_cursor::{Cursor, LexErr, or_back};
-use bash_reading::{attempt, boxed, must_or_restore, or_restore, put, repeat_marks, sees_blank};
+use bash_reading::{attempt, boxed, must_or_restore, or_restore, put, sees_blank};
 use eb_syntax::{And, Not, Or, Primary, Regex, Word};
 use sqlite_items::Items as List;
 
@@ -22,7 +22,7 @@ fn group_inside<
     O: Fn(&mut Cursor<'_>) -> Result<Or, LexErr>,
 >(c: &mut Cursor<'_>, lines: &L, or: &O) -> Result<Or, LexErr>
     requires between { ReadsMarksBelow lines_at (c.old.room + 1) (L.pre lines.now) (L.post lines.now) }
-    requires conditions { ReadsMarksBelow or_lines_at (c.old.room + 1) (O.pre or.now) (O.post or.now) }
+    requires conditions { ReadsMarksBelow or_lines (c.old.room + 1) (O.pre or.now) (O.post or.now) }
     ensures { ReadsMarks (conditions.condition_group (rules_in (inside c.old.room))) c.old result c.new }
 {
     let saved = c.save()?;
@@ -40,7 +40,7 @@ fn group<
     O: Fn(&mut Cursor<'_>) -> Result<Or, LexErr>,
 >(c: &mut Cursor<'_>, lines: &L, or: &O) -> Result<Or, LexErr>
     requires between { ReadsMarksBelow lines_at c.old.room (L.pre lines.now) (L.post lines.now) }
-    requires conditions { ReadsMarksBelow or_lines_at c.old.room (O.pre or.now) (O.post or.now) }
+    requires conditions { ReadsMarksBelow or_lines c.old.room (O.pre or.now) (O.post or.now) }
     ensures { ReadsMarks (group_at c.old.room) c.old result c.new }
 {
     if !c.sees(b"(") {
@@ -101,7 +101,7 @@ fn primary<
     requires words { ReadsBelow word_at (c.old.room + 1) (W.pre word.now) (W.post word.now) }
     requires regexes { ReadsBelow regex_at (c.old.room + 1) (R.pre regex.now) (R.post regex.now) }
     requires between { ReadsMarksBelow lines_at c.old.room (L.pre lines.now) (L.post lines.now) }
-    requires conditions { ReadsMarksBelow or_lines_at c.old.room (O.pre or.now) (O.post or.now) }
+    requires conditions { ReadsMarksBelow or_lines c.old.room (O.pre or.now) (O.post or.now) }
     ensures { ReadsMarks (conditions.prim (inside c.old.room)) c.old result c.new }
 {
     let saved = c.save()?;
@@ -126,7 +126,7 @@ fn not_by<
     requires words { ReadsBelow word_at (c.old.room + 1) (W.pre word.now) (W.post word.now) }
     requires regexes { ReadsBelow regex_at (c.old.room + 1) (R.pre regex.now) (R.post regex.now) }
     requires between { ReadsMarksBelow lines_at c.old.room (L.pre lines.now) (L.post lines.now) }
-    requires conditions { ReadsMarksBelow or_lines_at c.old.room (O.pre or.now) (O.post or.now) }
+    requires conditions { ReadsMarksBelow or_lines c.old.room (O.pre or.now) (O.post or.now) }
     requires negations { ReadsMarksBelow negatable_at c.old.room (N.pre negated.now) (N.post negated.now) }
     ensures { ReadsMarks (negatable_at c.old.room) c.old result c.new }
 {
@@ -138,6 +138,7 @@ fn not_by<
 }
 
 // `&&` and the condition after it, with the lines round it.
+#[tactic(auto, unfolding(crate::specs::Parts::and_step))]
 fn and_step<
     L: Fn(&mut Cursor<'_>) -> Result<(), LexErr>,
     N: Fn(&mut Cursor<'_>) -> Result<Not, LexErr>,
@@ -219,7 +220,7 @@ fn or_lines<
 >(c: &mut Cursor<'_>, lines: &L, not: &N) -> Result<Or, LexErr>
     requires between { ReadsMarksBelow lines_at (c.old.room + 1) (L.pre lines.now) (L.post lines.now) }
     requires conditions { ReadsMarksBelow negatable_at (c.old.room + 1) (N.pre not.now) (N.post not.now) }
-    ensures { ReadsMarks (or_lines_at c.old.room) c.old result c.new }
+    ensures { ReadsMarks (or_lines c.old.room) c.old result c.new }
 {
     let saved = c.save()?;
     let first = and_lines(c, lines, not)?;
@@ -246,7 +247,7 @@ fn negatable<
         requires words { ReadsBelow word_at (c.old.room + 1) (W.pre word.now) (W.post word.now) }
         requires regexes { ReadsBelow regex_at (c.old.room + 1) (R.pre regex.now) (R.post regex.now) }
         requires between { ReadsMarksBelow lines_at (c.old.room + 1) (L.pre lines.now) (L.post lines.now) }
-        ensures { ReadsMarks (or_lines_at c.old.room) c.old result c.new }
+        ensures { ReadsMarks (or_lines c.old.room) c.old result c.new }
     {
         let _ = &room;
         condition(c, word, regex, lines)
@@ -281,7 +282,7 @@ pub fn condition<
     requires words { ReadsBelow word_at (c.old.room + 1) (W.pre word.now) (W.post word.now) }
     requires regexes { ReadsBelow regex_at (c.old.room + 1) (R.pre regex.now) (R.post regex.now) }
     requires between { ReadsMarksBelow lines_at (c.old.room + 1) (L.pre lines.now) (L.post lines.now) }
-    ensures { ReadsMarks (or_lines_at c.old.room) c.old result c.new }
+    ensures { ReadsMarks (or_lines c.old.room) c.old result c.new }
 {
     let room = c.room();
     let one = |c: &mut Cursor<'_>| -> Result<Not, LexErr>

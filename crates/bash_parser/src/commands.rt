@@ -1,9 +1,9 @@
 //! Commands and lists of commands, with the lists of commands inside them read by `items` and `body`.
 
 ghost use Rattle.std.specs.Prelude.{◌+◌, false};
-ghost use Rattle.bash_compounds.specs.Forms.{choices_at, groups_at, if_at, loops_at};
+ghost use Rattle.bash_compounds.specs.Forms.{choices_at, groups_at, if_at, loops_at, or_lines_at};
 ghost use Rattle.bash_cursor.specs.Reads.{Reads, ReadsBelow, ReadsMarks};
-ghost use Rattle.bash_reading.specs.At.{arith_part_at, arith_text_at, assign_at, body_at, command_at, compound_at, items_at, lines_at, newline_at, or_lines_at, redir_at, word_at};
+ghost use Rattle.bash_reading.specs.At.{arith_part_at, arith_text_at, assign_at, body_at, command_at, compound_at, items_at, lines_at, newline_at, redir_at, word_at};
 ghost use Rattle.eb_grammar.specs.Commands as commands;
 ghost use Rattle.eb_grammar.specs.Grammar.{inside};
 ghost use Rattle.eb_grammar.specs.Peg.{gather};
@@ -62,7 +62,7 @@ fn looped<
 }
 
 // `case` or `[[`, whose nesting is open.
-#[tactic(auto, using(bash_cursor::proofs::Below::narrower))]
+#[tactic(auto, using(bash_cursor::proofs::Below::narrower), unfolding(bash_conditions::specs::Parts::or_lines, bash_compounds::specs::Forms::or_lines_at))]
 fn choice<
     I: Fn(&mut Cursor<'_>) -> Result<Items, LexErr>,
     O: Fn(&mut Cursor<'_>) -> Result<Body, LexErr>,

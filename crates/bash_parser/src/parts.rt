@@ -1,9 +1,10 @@
 //! What commands are made of, with the lists of commands in it read by `items` and `body`.
 
 ghost use Rattle.std.specs.Prelude.{◌+◌};
+ghost use Rattle.bash_conditions.specs.Parts.{or_lines};
 ghost use Rattle.bash_cursor.specs.Reads.{Reads, ReadsBelow, ReadsMarks};
 ghost use Rattle.bash_lexer.specs.At.{piece_at, quoted_at, subscript_at};
-ghost use Rattle.bash_reading.specs.At.{assign_at, body_at, items_at, lines_at, newline_at, or_lines_at, redir_at, regex_at, word_at};
+ghost use Rattle.bash_reading.specs.At.{assign_at, body_at, items_at, lines_at, newline_at, redir_at, regex_at, word_at};
 
 use bash_cursor::{Cursor, LexErr};
 use eb_syntax::{Assign, Body, Items, Or, Piece, QPiece, Redir, Regex, Sub, Word};
@@ -133,7 +134,7 @@ pub fn condition<
 >(c: &mut Cursor<'_>, items: &I, body: &O) -> Result<Or, LexErr>
     requires lists { ReadsBelow items_at c.old.room (I.pre items.now) (I.post items.now) }
     requires bodies { ReadsBelow body_at c.old.room (O.pre body.now) (O.post body.now) }
-    ensures { ReadsMarks (or_lines_at c.old.room) c.old result c.new }
+    ensures { ReadsMarks (or_lines c.old.room) c.old result c.new }
 {
     let word = |c: &mut Cursor<'_>| -> Result<Word, LexErr>
         requires lists { ReadsBelow items_at c.old.room (I.pre items.now) (I.post items.now) }

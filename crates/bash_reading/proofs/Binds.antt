@@ -1,6 +1,6 @@
 -- Rules in a row, and choices, grouped otherwise.
 use Rattle.std.proofs.Common.{◌≡◌, Ok, Err, ◌∙◌, refl}
-use Rattle.eb_grammar.specs.Peg.{Spot, No, Deep, Rule, Outcome, ◌>>=◌, ◌>>◌, ◌</>◌, pure, and_then, either, followed_by}
+use Rattle.eb_grammar.specs.Peg.{Spot, No, Deep, Rule, Outcome, ◌>>=◌, ◌</>◌, pure, and_then, either}
 
 -- ---- one rule after another
 
@@ -18,10 +18,6 @@ module _ {A B : Type 0} (f g : A → Rule B) (same : (a : A) (s : Spot) → f a 
 pub regrouped : {A B D : Type 0} (p : Rule A) (q : A → Rule B) (f : B → Rule D) (g : A → Rule D) → ((a : A) (s : Spot) → (q a >>= f) s ≡ g a s)
     → (s : Spot) → ((p >>= q) >>= f) s ≡ (p >>= g) s
 regrouped p q f g same s = after_both q f (p s) ∙ then_same (λ a. q a >>= f) g same (p s)
-
--- what stands after p is read with it, and its node thrown away
-pub followed_then : {A B D : Type 0} (p : Rule A) (q : Rule B) (f : A → Rule D) (s : Spot) → (followed_by p q >>= f) s ≡ (p >>= (λ x. q >> f x)) s
-followed_then p q f = regrouped p (λ x. q >> pure x) f (λ x. q >> f x) (λ x. regrouped q (λ _. pure x) f (λ _. f x) (λ _ t. refl))
 
 -- ---- choices
 

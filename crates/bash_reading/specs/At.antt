@@ -8,7 +8,7 @@ use Rattle.eb_syntax.specs.declared.tree.Not.{Not}
 use Rattle.eb_syntax.specs.declared.tree.Redir.{Redir}
 use Rattle.eb_syntax.specs.declared.tree.Word.{Word}
 use Rattle.eb_syntax.specs.Tree.{ArithText, Body, Or, Regex}
-use Rattle.eb_grammar.specs.Peg.{Rule, followed_by}
+use Rattle.eb_grammar.specs.Peg.{Rule}
 use Rattle.eb_grammar.specs.Grammar.{inside}
 use Rattle.eb_grammar.specs.ArithText.{arith, arith_part}
 use Rattle.eb_grammar.specs.Commands.{body, command, items}
@@ -44,10 +44,6 @@ redir_at n = redir (inside n)
 
 abbrev pub or_at : ℕ → Rule Or
 or_at n = or (inside n)
-
--- Or Lines
-abbrev pub or_lines_at : ℕ → Rule Or
-or_lines_at n = followed_by (or (inside n)) (lines (inside n))
 
 abbrev pub negatable_at : ℕ → Rule Not
 negatable_at n = not (inside n)
