@@ -11,7 +11,7 @@ use Rattle.eb_grammar.specs.Conditions.{or}
 use Rattle.eb_grammar.specs.Grammar.{inside, rules_in}
 use Rattle.eb_grammar.specs.HereDocuments.{lines}
 use Rattle.eb_grammar.specs.Names.{blanks, kw}
-use Rattle.eb_grammar.specs.Peg.{Rule, ◌>>=◌, ◌>>◌, ◌<$>◌, ◌</>◌, pure, followed_by, maybe, stands, at, many, lit}
+use Rattle.eb_grammar.specs.Peg.{Rule, ◌>>=◌, ◌>>◌, ◌<$>◌, ◌</>◌, pure, followed_by, maybe, stands, at, many, lit, either}
 use Rattle.eb_grammar.specs.Rules.{Rules}
 
 -- ---- the forms
@@ -95,6 +95,22 @@ loop_words inside = Some <$> in_words inside </> blanks >> stands (lit ";") >> p
 -- Or Lines
 unfoldable pub or_lines_at : ℕ → Rule Or
 or_lines_at n = followed_by (or (inside n)) (lines (inside n))
+-- Kw("in") (B Word)* B (";" / &[\n#])
+unfoldable pub given_words : Rules → Rule (List Word)
+given_words inside = do
+  kw "in"
+  words ← many (blank_word inside)
+  blanks
+  words_end
+  pure words
+
+-- the words, if any are given, and then Lines
+unfoldable pub given_or_none : Rules → Rule (Option (List Word))
+given_or_none inside = λ s. either (given_words inside s) (λ words. inside.lines >> pure (Some words)) (pure None) s
+
+-- what may stand between the name of a loop and its Do, with the words that are given
+abbrev pub words_and_lines : ℕ → Rule (Option (List Word))
+words_and_lines n = followed_by (loop_words (rules_in (inside n))) (lines (inside n))
 
 -- ---- parts of `case`
 

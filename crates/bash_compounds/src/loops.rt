@@ -2,7 +2,7 @@
 
 ghost use Rattle.std.specs.Prelude.{◌+◌};
 ghost use Rattle.bash_cursor.specs.Reads.{Eats, Reads, ReadsBelow, ReadsMarks};
-ghost use Rattle.bash_compounds.specs.Forms.{arith_head, blank_word, loop_end, loop_words, loops_at, words_end};
+ghost use Rattle.bash_compounds.specs.Forms.{arith_head, blank_word, given_or_none, given_words, loop_end, loops_at, words_and_lines, words_end};
 ghost use Rattle.bash_reading.specs.At.{arith_part_at, body_at, lines_at, word_at};
 ghost use Rattle.bash_reading.specs.Marks.{ReadsMarksBelow, mapped};
 ghost use Rattle.eb_grammar.specs.Compounds as compounds;
@@ -10,7 +10,7 @@ ghost use Rattle.eb_grammar.specs.Grammar.{inside, rules_in};
 ghost use Rattle.eb_grammar.specs.Peg.{many};
 
 use bash_cursor::{Cursor, LexErr, name, or_back};
-use bash_reading::{attempt, may_eat, must_or_restore, or_restore, put, repeat, reserved_word};
+use bash_reading::{attempt, may_eat, must, or_restore, put, repeat, reserved_word};
 use eb_grammar::Class;
 use eb_syntax::{ArithText, Body, Compound, Name, Word};
 use sqlite_items::Items as List;
@@ -148,43 +148,65 @@ fn words_end(c: &mut Cursor<'_>) -> bool
 }
 
 // `in` and the words after it.
-#[tactic(auto, unfolding(eb_grammar::specs::Compounds::in_words))]
-fn in_words<
-    L: Fn(&mut Cursor<'_>) -> Result<(), LexErr>,
-    W: Fn(&mut Cursor<'_>) -> Result<Word, LexErr>,
->(c: &mut Cursor<'_>, lines: &L, word: &W) -> Result<List<Word>, LexErr>
-    requires between { ReadsMarksBelow lines_at (c.old.room + 1) (L.pre lines.now) (L.post lines.now) }
-    requires words { ReadsBelow word_at (c.old.room + 1) (W.pre word.now) (W.post word.now) }
-    ensures { ReadsMarks (compounds.in_words (rules_in (inside c.old.room))) c.old result c.new }
+#[tactic(auto, unfolding(crate::specs::Forms::given_words))]
+fn given_words<W: Fn(&mut Cursor<'_>) -> Result<Word, LexErr>>(
+    c: &mut Cursor<'_>,
+    word: &W,
+) -> Result<List<Word>, LexErr>
+    requires { ReadsBelow word_at (c.old.room + 1) (W.pre word.now) (W.post word.now) }
+    ensures { Reads (given_words (rules_in (inside c.old.room))) c.old result c.new }
 {
-    let saved = c.save()?;
-    lines(c)?;
-    or_restore!(c, saved, reserved_word(c, b"in"));
-    let words = or_restore!(c, saved, blank_words(c, word));
+    let start = c.here();
+    reserved_word(c, b"in")?;
+    let words = or_back!(c, start, blank_words(c, word));
     c.blanks();
-    must_or_restore!(c, saved, words_end(c));
+    must!(c, start, words_end(c));
     Ok(words)
 }
 
-// The same, or where no words are given what stands in their place.
-fn loop_words<
+// The same and the lines after it; where no words are given, nothing.
+#[tactic(auto, unfolding(crate::specs::Forms::given_or_none))]
+fn given_or_none<
     L: Fn(&mut Cursor<'_>) -> Result<(), LexErr>,
     W: Fn(&mut Cursor<'_>) -> Result<Word, LexErr>,
 >(c: &mut Cursor<'_>, lines: &L, word: &W) -> Result<Option<List<Word>>, LexErr>
     requires between { ReadsMarksBelow lines_at (c.old.room + 1) (L.pre lines.now) (L.post lines.now) }
     requires words { ReadsBelow word_at (c.old.room + 1) (W.pre word.now) (W.post word.now) }
-    ensures { ReadsMarks (loop_words (rules_in (inside c.old.room))) c.old result c.new }
+    ensures { ReadsMarks (given_or_none (rules_in (inside c.old.room))) c.old result c.new }
 {
-    if let Some(words) = attempt!(in_words(c, lines, word)) {
-        return Ok(Some(words));
-    }
+    let start = c.here();
+    let Some(words) = attempt!(given_words(c, word)) else {
+        return Ok(None);
+    };
+    or_back!(c, start, lines(c));
+    Ok(Some(words))
+}
+
+// The words of a loop, or the semicolon in their place, with the lines before and after. Lines are read once, whatever
+// stands after them.
+#[tactic(auto, using(crate::proofs::LoopWords::words_none, crate::proofs::LoopWords::words_some))]
+fn words_and_lines<
+    L: Fn(&mut Cursor<'_>) -> Result<(), LexErr>,
+    W: Fn(&mut Cursor<'_>) -> Result<Word, LexErr>,
+>(c: &mut Cursor<'_>, lines: &L, word: &W) -> Result<Option<List<Word>>, LexErr>
+    requires between { ReadsMarksBelow lines_at (c.old.room + 1) (L.pre lines.now) (L.post lines.now) }
+    requires words { ReadsBelow word_at (c.old.room + 1) (W.pre word.now) (W.post word.now) }
+    ensures { ReadsMarks (words_and_lines c.old.room) c.old result c.new }
+{
+    let start = c.here();
     c.blanks();
-    may_eat(c, b";");
-    Ok(None)
+    if c.eat(b";") {
+        or_back!(c, start, lines(c));
+        return Ok(None);
+    }
+    c.back_to(start);
+    let saved = c.save()?;
+    lines(c)?;
+    Ok(or_restore!(c, saved, given_or_none(c, lines, word)))
 }
 
 // What stands after `for` or `select`: the name, the words, and what is run.
-#[tactic(auto, unfolding(eb_grammar::specs::Compounds::loop_over))]
+#[tactic(auto, using(crate::proofs::LoopWords::loop_over_is))]
 fn loop_over<
     B: Fn(&mut Cursor<'_>) -> Result<Body, LexErr>,
     L: Fn(&mut Cursor<'_>) -> Result<(), LexErr>,
@@ -203,8 +225,7 @@ fn loop_over<
     let saved = c.save()?;
     c.blanks();
     let called = or_restore!(c, saved, name(c));
-    let words = or_restore!(c, saved, loop_words(c, lines, word));
-    or_restore!(c, saved, lines(c));
+    let words = or_restore!(c, saved, words_and_lines(c, lines, word));
     let found = or_restore!(c, saved, do_done(c, body));
     Ok((called, words, found))
 }
