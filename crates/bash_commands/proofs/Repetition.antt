@@ -65,6 +65,7 @@ module _ {A : Type 0} (p : Rule (List A)) where
 -- it is p's first node and the others, where p has one
 module _ {A : Type 0} (p : Rule A) (takes : TakesBytes (single <$> p)) (s : Spot) where
   pub many_more : (x : A) (s' : Spot) → p s ≡ Ok (x, s') → many p s ≡ and_then (many p s') (λ others. pure (x ∷ others))
+  unfolding Shifts
   many_more x s' e =
       let is : (single <$> p) s ≡ Ok (x ∷ [], s') = rw e refl in
       let fewer : length s'.rest < length s.rest = less (single <$> p) takes s (x ∷ []) s' is in

@@ -96,8 +96,12 @@ module _ (r : Rules) where
   unfolding compound_forms groups loops choices
   forms_are s =
       first_three (braces r) (arith_command r) (subshell r) rest s
-      ∙ or_other _ rest _ s (or_other (if_command r) _ _ s
-      (first_five (while_loop r) (until_loop r) (arith_for r) (for_loop r) (select_loop r) (case_command r </> test_command r) s))
+      ∙ or_other (braces r </> arith_command r </> subshell r) rest (if_command r </> loops r </> choices r) s
+      (or_other (if_command r) after_if (loops r </> choices r) s
+      (first_five (while_loop r) (until_loop r) (arith_for r) (for_loop r) (select_loop r) (choices r) s))
     where
+      after_if : Rule Compound
+      after_if = while_loop r </> until_loop r </> arith_for r </> for_loop r </> select_loop r </> choices r
+
       rest : Rule Compound
-      rest = if_command r </> while_loop r </> until_loop r </> arith_for r </> for_loop r </> select_loop r </> case_command r </> test_command r
+      rest = if_command r </> after_if
