@@ -14,7 +14,7 @@ use crate::prefixes::{blank_redir, prefixes};
 use crate::tails::simple_with;
 use bash_cursor::{Cursor, LexErr, or_back};
 use bash_drafts::{Draft, Inner};
-use bash_reading::{attempt, or_restore, put, repeat_marks, some_blanks};
+use bash_reading::{attempt, or_restore, put, some_blanks};
 use eb_syntax::{Argument, Assign, Decl, DeclName, Redir, Word};
 use sqlite_items::Items as List;
 

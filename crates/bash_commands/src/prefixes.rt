@@ -10,7 +10,7 @@ ghost use Rattle.eb_grammar.specs.Grammar.{inside};
 ghost use Rattle.eb_grammar.specs.Peg.{many};
 
 use bash_cursor::{Cursor, LexErr, or_back};
-use bash_reading::{attempt, put, repeat_marks};
+use bash_reading::{attempt, or_restore, put};
 use eb_syntax::{Assign, Prefix, Redir};
 use sqlite_items::Items as List;
 

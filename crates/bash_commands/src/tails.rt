@@ -11,7 +11,7 @@ ghost use Rattle.eb_grammar.specs.Peg.{many, maybe};
 
 use crate::prefixes::prefixes;
 use bash_cursor::{Cursor, LexErr, or_back};
-use bash_reading::{attempt, attempt_or_back, or_restore, put, repeat_marks};
+use bash_reading::{attempt, attempt_or_back, or_restore, put};
 use eb_grammar::Class;
 use eb_syntax::{Assign, Prefix, Redir, Simple, Tail, TailPart, Word};
 use sqlite_items::Items as List;

@@ -11,9 +11,7 @@ ghost use Rattle.eb_grammar.specs.Names.{kw};
 ghost use Rattle.eb_grammar.specs.Peg.{many};
 
 use bash_cursor::{Cursor, LexErr, or_back};
-use bash_reading::{
-    attempt, must_or_restore, or_restore, put, repeat, repeat_marks, reserved_word,
-};
+use bash_reading::{attempt, must_or_restore, or_restore, put, reserved_word};
 use eb_syntax::{Clause, ClauseEnd, Compound, Items, Or, Word};
 use sqlite_items::Items as List;
 

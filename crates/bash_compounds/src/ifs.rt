@@ -9,7 +9,7 @@ ghost use Rattle.eb_grammar.specs.Grammar.{inside, rules_in};
 ghost use Rattle.eb_grammar.specs.Peg.{many, maybe};
 
 use bash_cursor::{Cursor, LexErr, or_back};
-use bash_reading::{attempt, put, repeat, reserved_word};
+use bash_reading::{attempt, put, reserved_word};
 use eb_syntax::{Body, Compound, Elif, ElifOf};
 use sqlite_items::Items as List;
 

@@ -10,7 +10,7 @@ ghost use Rattle.eb_grammar.specs.Grammar.{inside, rules_in};
 ghost use Rattle.eb_grammar.specs.Peg.{many};
 
 use bash_cursor::{Cursor, LexErr, name, or_back};
-use bash_reading::{attempt, may_eat, must_or_restore, or_restore, put, repeat, reserved_word};
+use bash_reading::{attempt, may_eat, must_or_restore, or_restore, put, reserved_word};
 use eb_grammar::Class;
 use eb_syntax::{ArithText, Body, Compound, Name, Word};
 use sqlite_items::Items as List;
