@@ -1,8 +1,8 @@
 -- What the code keeps of what a reference finds, as the meaning of words has it.
-use Rattle.std.specs.Prelude.{◌≡◌, ◌≤◌, ℤ, Result, Ok, Err, Some, None}
+use Rattle.std.specs.Prelude.{◌≡◌, ℤ, Result, Ok, Err, Some, None}
 use Rattle.std.specs.Option.{option_map}
 use Rattle.eb_bytes.specs.Text.{Text}
-use Rattle.shell_state.specs.Outcome.{Doing, Outcome, Ended, Faulted, ◌>>◌, left_of, Tells}
+use Rattle.shell_state.specs.Outcome.{Doing, Outcome, Ended, Faulted, ◌>>◌}
 use Rattle.shell_state.specs.State.{State}
 use Rattle.shell_state.specs.declared.stop.Stop.{Stop}
 use Rattle.shell_state.specs.declared.stop.Stop.TheVariants as stop
@@ -26,13 +26,13 @@ abbrev pub found_of : Found → refs.Found
 found_of (found.One t place) = refs.One t (option_map place_of place)
 found_of (found.Many star s) = refs.Many star (source_of s)
 
--- what is found is how a part of a run ends, in the state at that moment, or its fault is; where there is no room, no
--- more steps were spent than the part spends
+-- what is found is how a part of a run ends, in the state in which it began, or its fault is; nothing is spent or
+-- changed, also where there is no room
 abbrev pub Finds : Result Found Stop → Outcome refs.Found → State → Type 0
 Finds (Ok f) r at = r ≡ Ended (found_of f) at
 Finds (Err (stop.Fault fault)) r at = r ≡ Faulted fault at.left at.host.asked
 Finds (Err stop.Failed) r at = ⊥
-Finds (Err stop.Memory) r at = left_of r ≤ at.left
+Finds (Err stop.Memory) r at = Unit {0}
 
 -- the element that an index means, once its subscript is evaluated
 abbrev pub element_at : Text → ℤ → Doing refs.Found
@@ -40,4 +40,7 @@ element_at name i = may_read name >> (λ at. element_found name i (call.element 
 
 -- a variable may be read, or is refused
 abbrev pub Reads : Result (Unit {0}) Stop → Text → Type 0
-Reads result name = (at : State) → Tells result (may_read name at) at
+Reads (Ok done) name = (at : State) → may_read name at ≡ Ended tt at
+Reads (Err (stop.Fault fault)) name = (at : State) → may_read name at ≡ Faulted fault at.left at.host.asked
+Reads (Err stop.Failed) name = ⊥
+Reads (Err stop.Memory) name = Unit {0}

@@ -133,7 +133,7 @@ fn with_digit(number: u64, byte: u8) -> Option<u64>
 }
 
 // The number that digits write; none, where it is 2^64 or more.
-#[tactic(auto, using(crate::proofs::Digits::not_less))]
+#[tactic(auto, using(crate::proofs::Digits::too_great))]
 fn number(digits: &[u8]) -> Option<u64>
     ensures some { IfSome result (λ number. number ≡ digits_value 10 digits.now) }
     ensures none { IfNone result (2 ^ 64 ≤ digits_value 10 digits.now) }
