@@ -1,6 +1,7 @@
-ghost use Rattle.std.specs.Prelude.{◌≡◌, ◌≢◌, ℤ, List, Some, None, Err, IfOk, IfSome, IfNone, ◌≤◌, ◌^◌, ◌+◌, ◌*◌, decimal as decimal_text};
+ghost use Rattle.std.specs.Prelude.{◌≡◌, ◌≢◌, ℤ, Some, None, Err, IfOk, IfSome, IfNone, ◌≤◌, ◌^◌, ◌+◌, ◌*◌, ℕ, [], ◌∷◌, decimal as decimal_text};
 ghost use Rattle.std.specs.Char.{digit_value};
 ghost use Rattle.std.specs.Str.Parse.{digits_value};
+ghost use Rattle.eb_bytes.specs.Text.{Text};
 ghost use Rattle.eb_syntax.specs.Tree.{Sub};
 ghost use Rattle.eb_syntax.specs.declared.parts.RefOf.TheVariants as ref;
 ghost use Rattle.shell_state.specs.Outcome.{Doing};
@@ -8,6 +9,7 @@ ghost use Rattle.shell_state.specs.State.{State};
 ghost use Rattle.shell_vars.specs.Value.{elements_of};
 ghost use Rattle.std.specs.Option.{option_copied};
 ghost use Rattle.word_meaning.specs.References.{positional as positional_in, referred, special as special_of, subscripted};
+ghost use Rattle.expand_values.specs.Digits.{LeadsTo};
 ghost use Rattle.expand_values.specs.Seen.{element_at, Finds, Reads};
 
 use crate::found::{Found, Place, Source};
@@ -51,10 +53,13 @@ fn of_variable(alloc: Global, name: &[u8], index: Option<i64>, text: Option<&Byt
 ///
 /// # Errors
 /// `Unsupported` with the name where a shell makes up its value as it is read; `Memory`.
+#[tactic(auto, using(crate::proofs::Refusals::refused))]
 pub fn variable(alloc: Global, vars: &Vars, name: &[u8]) -> Result<Found, Stop>
     ensures { (index : Sub → Doing ℤ) (at : State) → at.store ≡ vars.now.present → Finds result (referred index (ref.Name name.now None) at) at }
 {
-    may_read(alloc, name)?;
+    if let Err(stopped) = may_read(alloc, name) {
+        return Err(stopped);
+    }
     Ok(of_variable(alloc, name, None, value_named(vars, name))?)
 }
 
@@ -63,10 +68,13 @@ pub fn variable(alloc: Global, vars: &Vars, name: &[u8]) -> Result<Found, Stop>
 /// # Errors
 /// `Unsupported` with the name where a shell makes up the variable's value as it is read; `BadSubscript` with the name
 /// where no element can have that index; `Memory`.
+#[tactic(auto, using(crate::proofs::Refusals::refused))]
 pub fn element(alloc: Global, vars: &Vars, name: &[u8], index: i64) -> Result<Found, Stop>
     ensures { (at : State) → at.store ≡ vars.now.present → Finds result (element_at name.now index at) at }
 {
-    may_read(alloc, name)?;
+    if let Err(stopped) = may_read(alloc, name) {
+        return Err(stopped);
+    }
     match vars.element(name, Some(index)) {
         Ok(text) => Ok(of_variable(alloc, name, Some(index), text)?),
         Err(refused) => Err(Stop::of_variable(alloc, name, refused)),
@@ -92,10 +100,13 @@ fn elements(alloc: Global, value: Option<&Value>) -> Result<Elements, Memory>
 ///
 /// # Errors
 /// `Unsupported` with the name where a shell makes up the variable's value as it is read; `Memory`.
+#[tactic(auto, using(crate::proofs::Refusals::refused))]
 pub fn array(alloc: Global, vars: &Vars, name: &[u8], star: bool) -> Result<Found, Stop>
     ensures { (index : Sub → Doing ℤ) (sub : Sub) (at : State) → at.store ≡ vars.now.present → Finds result (subscripted index name.now sub (Some star) at) at }
 {
-    may_read(alloc, name)?;
+    if let Err(stopped) = may_read(alloc, name) {
+        return Err(stopped);
+    }
     let elements = elements(alloc, vars.get(name))?;
     Ok(Found::Many(star, Source::Array(elements)))
 }
@@ -132,20 +143,25 @@ fn with_digit(number: u64, byte: u8) -> Option<u64>
     number.checked_mul(10)?.checked_add(digit(byte))
 }
 
-// The number that digits write; none, where it is 2^64 or more.
-#[tactic(auto, using(crate::proofs::Digits::too_great))]
-fn number(digits: &[u8]) -> Option<u64>
-    ensures some { IfSome result (λ number. number ≡ digits_value 10 digits.now) }
-    ensures none { IfNone result (2 ^ 64 ≤ digits_value 10 digits.now) }
+// A number that is read so far, with one digit more.
+fn one_more(number: Option<u64>, byte: u8) -> Option<u64>
+    ensures { (left : Text) (whole : ℕ) → LeadsTo number (byte ∷ left) whole → LeadsTo result left whole }
 {
-    let mut number = 0u64;
-    for digit in digits {
-        match with_digit(number, *digit) {
-            Some(more) => number = more,
-            None => return None,
-        }
+    match number {
+        Some(number) => with_digit(number, byte),
+        None => None,
     }
-    Some(number)
+}
+
+// The number that digits write; none, where it is 2^64 or more.
+fn number(digits: &[u8]) -> Option<u64>
+    ensures { LeadsTo result [] (digits_value 10 digits.now) }
+{
+    let mut number = Some(0u64);
+    for digit in digits {
+        number = one_more(number, *digit);
+    }
+    number
 }
 
 /// A positional parameter, by the digits of its number; 0 is the name of the shell.
