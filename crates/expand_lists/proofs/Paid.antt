@@ -1,0 +1,1 @@
+-- Costs behind limits.
