@@ -4,6 +4,7 @@
 
 mod expander;
 mod level;
+mod scene;
 
 pub use expander::{Expanded, Expander, Job, Turn, Wanted};
 pub use level::{Act, Level, Parts, Target, Use};
