@@ -1,19 +1,18 @@
 -- What an answer of a turn says of what is left.
-use Rattle.std.specs.Prelude.{◌≡◌, ℕ, ◌≤◌, [], Result, Ok, Err}
-use Rattle.shell_state.specs.Outcome.{Doing, Outcome, Ended, Faulted, and_then, left_of}
+use Rattle.std.specs.Prelude.{◌≡◌, ◌≤◌, [], Result, Ok, Err}
+use Rattle.shell_state.specs.Outcome.{Outcome, Ended, Faulted, and_then, left_of}
 use Rattle.shell_state.specs.State.{State}
 use Rattle.shell_state.specs.declared.stop.Stop.{Stop}
 use Rattle.shell_state.specs.declared.stop.Stop.TheVariants as stop
 use Rattle.word_meaning.specs.Laws.{SubstitutionsLast}
-use Rattle.word_meaning.specs.Marks.{Given, emitted, given}
-use Rattle.bash_expand.specs.Rest.{Sub, acted, resume}
+use Rattle.word_meaning.specs.Marks.{emitted, given}
+use Rattle.bash_expand.specs.Rest.{Sub, resume}
 use Rattle.bash_expand.specs.declared.expander.Expanded.{Expanded}
 use Rattle.bash_expand.specs.declared.expander.Expander.{Expander}
 use Rattle.bash_expand.specs.declared.expander.Step.{Step}
 use Rattle.bash_expand.specs.declared.expander.Step.TheVariants as step
 use Rattle.bash_expand.specs.declared.expander.Turn.{Turn}
 use Rattle.bash_expand.specs.declared.expander.Turn.TheVariants as turn
-use Rattle.bash_expand.specs.declared.level.Act.{Act}
 
 -- what has to be done is, for all ways to run commands: a fault, in the state at that moment; where there is no room, no
 -- more steps were spent than it spends
@@ -21,11 +20,6 @@ abbrev pub Stops : {A : Type 0} → Stop → (Sub → Outcome A) → State → T
 Stops (stop.Fault fault) o at = (sub : Sub) → o sub ≡ Faulted fault at.left at.host.asked
 Stops stop.Failed o at = ⊥
 Stops stop.Memory o at = (sub : Sub) → SubstitutionsLast sub → left_of (o sub) ≤ at.left
-
--- a part of a word comes to this, where n parts may still be opened
-abbrev pub Acts : Result Act Stop → (Sub → Outcome Given) → ℕ → State → Type 0
-Acts (Ok a) o n at = (sub : Sub) → o sub ≡ acted sub n a at
-Acts (Err why) o n at = Stops why o at
 
 -- a step: it goes on, or all is expanded, or commands are run, and what they print is put where they stand
 abbrev pub Steps : Result Step Stop → (Sub → Outcome Expanded) → Expander → State → Type 0

@@ -14,7 +14,7 @@ use Rattle.word_meaning.specs.Limits.{fields_fit}
 use Rattle.expand_lists.specs.Fit.{LeadsTo}
 
 -- both limits, then another part
-both : Bool → Bool → Doing (Unit {0}) → Doing (Unit {0})
+abbrev both : Bool → Bool → Doing (Unit {0}) → Doing (Unit {0})
 both a b p = (if a then pure tt else refuse fault.ValueSize) >> ((if b then pure tt else refuse fault.TotalSize) >> p)
 
 by_tests : (a b : Bool) (p : Doing (Unit {0})) (at : State) (t : Text) (n : ℕ) → is_short t ≡ a → nat_le n 33554432 ≡ b

@@ -31,21 +31,20 @@ not_paid n p stop.Failed at after is t = absurd (cc)
 not_paid n p stop.Memory at after is t = absurd (cc)
 
 -- a text, where it is short enough
-by_length : (b : Bool) (t : Text) → Result Text ParamErr
+abbrev by_length : (b : Bool) (t : Text) → Result Text ParamErr
 by_length b t = if b then Ok t else Err refusal.ValueSize
 
-fit : Bool → Text → Doing Text
+abbrev fit : Bool → Text → Doing Text
 fit b t = (if b then pure tt else refuse fault.ValueSize) >> pure t
+
+same : (t u : Text) → Ok {E = ParamErr} t ≡ Ok u → t ≡ u
+same t u e = cc
 
 pub fits_there : (t u : Text) → checked t ≡ Ok u → Makes (Ok u) (fitting t)
 fits_there t u e at = by (is_short t) e
   where
     by : (b : Bool) → by_length b t ≡ Ok u → fit b t at ≡ Ended u at
-    by true h = ap (λ (r : Result Text ParamErr). Ended (given r) at) h
-      where
-        given : Result Text ParamErr → Text
-        given (Ok v) = v
-        given (Err e) = u
+    by true h = ap (λ v. Ended v at) (same t u h)
     by false h = absurd (cc)
 
 pub fits_not : (t : Text) (why : Stop) (e : ParamErr) → IsTooLong why e → Refuses e (checked t) → Makes (Err why) (fitting t)

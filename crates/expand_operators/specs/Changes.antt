@@ -9,13 +9,16 @@ use Rattle.bash_patterns.specs.Pattern.{meaning}
 use Rattle.eb_bytes.specs.Text.{Text}
 use Rattle.bash_params.specs.declared.error.ParamErr.{ParamErr}
 use Rattle.bash_params.specs.declared.error.ParamErr.TheVariants as refusal
-use Rattle.shell_state.specs.Outcome.{Doing, Ended, Faulted, ◌>>◌, left_of, pure}
+use Rattle.shell_state.specs.Outcome.{Doing, Outcome, Ended, Faulted, ◌>>◌, left_of, pure}
 use Rattle.shell_state.specs.Spending.{spend}
 use Rattle.shell_state.specs.State.{State}
 use Rattle.shell_state.specs.declared.fault.Fault.TheVariants as fault
 use Rattle.shell_state.specs.declared.stop.Stop.{Stop}
 use Rattle.shell_state.specs.declared.stop.Stop.TheVariants as stop
 use Rattle.word_meaning.specs.Operators.{case_of, fitting, replace_of, strip_of}
+use Rattle.word_meaning.specs.References as refs
+use Rattle.expand_values.specs.Seen.{found_of}
+use Rattle.expand_values.specs.declared.found.Found.{Found}
 use Rattle.expand_operators.specs.declared.change.Change.{Change}
 use Rattle.expand_operators.specs.declared.change.Change.TheVariants as change
 
@@ -38,3 +41,11 @@ abbrev pub IsTooLong : Stop → ParamErr → Type 0
 IsTooLong (stop.Fault why) e = (e ≡ refusal.ValueSize) × (why ≡ fault.ValueSize)
 IsTooLong stop.Failed e = ⊥
 IsTooLong stop.Memory e = Unit {0}
+
+-- what is found is how a part of a run ends, in the state at that moment, or its fault is; where there is no room, no more
+-- steps were spent than the part spends
+abbrev pub TellsFound : Result Found Stop → Outcome refs.Found → State → Type 0
+TellsFound (Ok f) r at = r ≡ Ended (found_of f) at
+TellsFound (Err (stop.Fault fault)) r at = r ≡ Faulted fault at.left at.host.asked
+TellsFound (Err stop.Failed) r at = ⊥
+TellsFound (Err stop.Memory) r at = left_of r ≤ at.left

@@ -7,7 +7,7 @@ mod shown;
 mod sliced;
 mod values;
 
-pub use changed::{change_case, compile, replace, strip};
+pub use changed::compile;
 pub use shown::{indices, length_of, show, texts};
 pub use sliced::slice;
 pub use values::{has_colon, lacks, no_other};
