@@ -1,7 +1,6 @@
 -- What one part of a word comes to.
 use Rattle.std.specs.Prelude.{◌≡◌, ℕ, ◌<◌, ◌≤◌, false, [], Result, Ok, Err}
 use Rattle.eb_bytes.specs.Text.{Text}
-use Rattle.eb_bytes.specs.declared.bytes.Memory.{Memory}
 use Rattle.shell_state.specs.Outcome.{Outcome, Faulted, left_of}
 use Rattle.shell_state.specs.State.{State}
 use Rattle.shell_state.specs.declared.fault.Fault.TheVariants as fault
@@ -12,7 +11,6 @@ use Rattle.word_meaning.specs.Marks as meaning
 use Rattle.word_meaning.specs.Tilde.{may_begin}
 use Rattle.word_meaning.specs.declared.mode.Mode.{Mode}
 use Rattle.word_meaning.specs.declared.mode.Tildes.{Tildes}
-use Rattle.expand_marks.specs.declared.given.Given.{Given}
 use Rattle.bash_expand.specs.Rest.{Sub, acted}
 use Rattle.bash_expand.specs.declared.level.Act.{Act}
 use Rattle.bash_expand.specs.declared.level.Act.TheVariants as act
@@ -61,14 +59,6 @@ Opens (Ok a) parts mode tildes used n = (0 < n) × (a ≡ act.Open (level_of par
 Opens (Err (stop.Fault why)) parts mode tildes used n = (n ≡ 0) × (why ≡ fault.DepthLimit)
 Opens (Err stop.Failed) parts mode tildes used n = ⊥
 Opens (Err stop.Memory) parts mode tildes used n = Unit {0}
-
--- what there is, is given
-abbrev pub Gives : Result Act Stop → Result Given Memory → Type 0
-Gives (Ok a) (Ok g) = a ≡ act.Give g
-Gives (Ok a) (Err m) = ⊥
-Gives (Err (stop.Fault why)) given = ⊥
-Gives (Err stop.Failed) given = ⊥
-Gives (Err stop.Memory) given = Unit {0}
 
 -- a form is refused, or there is no room
 abbrev pub Refuses : Stop → Text → Type 0

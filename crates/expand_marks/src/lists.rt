@@ -11,7 +11,12 @@ use word_meaning::Mode;
 ///
 /// # Errors
 /// `Memory` where there is no room for it.
-pub fn join(alloc: Global, star: bool, first_of_ifs: &[u8], texts: &[Bytes]) -> Result<Bytes, Memory>
+pub fn join(
+    alloc: Global,
+    star: bool,
+    first_of_ifs: &[u8],
+    texts: &[Bytes],
+) -> Result<Bytes, Memory>
     ensures { IfOk result (λ text. text ≡ together star first_of_ifs.now texts.now) }
 {
     let mut joined = Bytes::new(alloc);
@@ -86,7 +91,12 @@ pub struct Listing<'a> {
 ///
 /// # Errors
 /// `Memory` where there is no room for it.
-pub fn put_list(alloc: Global, marks: &mut Marked, listing: &Listing<'_>, texts: &[Bytes]) -> Result<bool, Memory>
+pub fn put_list(
+    alloc: Global,
+    marks: &mut Marked,
+    listing: &Listing<'_>,
+    texts: &[Bytes],
+) -> Result<bool, Memory>
     ensures marks { OnOk result (marks.new ≡ marks.old ++ (listed listing.now.mode listing.now.quoted listing.now.star listing.now.first_of_ifs.now texts.now).marks) }
     ensures none { IfOk result (λ none. none ≡ (listed listing.now.mode listing.now.quoted listing.now.star listing.now.first_of_ifs.now texts.now).has_no_elements) }
 {

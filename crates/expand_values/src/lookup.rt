@@ -41,7 +41,12 @@ fn copied(alloc: Global, text: Option<&Bytes>) -> Result<Option<Bytes>, Memory>
 }
 
 // A value that a variable, or an element of it, has or has not.
-fn of_variable(alloc: Global, name: &[u8], index: Option<i64>, text: Option<&Bytes>) -> Result<Found, Memory>
+fn of_variable(
+    alloc: Global,
+    name: &[u8],
+    index: Option<i64>,
+    text: Option<&Bytes>,
+) -> Result<Found, Memory>
     ensures { IfOk result (λ found. found ≡ Found.One (option_copied text.entry) (Some (record { name = name.now; index = index }))) }
 {
     let text = copied(alloc, text)?;
