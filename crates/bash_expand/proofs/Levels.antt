@@ -26,13 +26,12 @@ or_false : (b : Bool) → (b || false) ≡ b
 or_false true = refl
 or_false false = refl
 
-same_given : (ms ns : Marks) (b c : Bool) → ms ≡ ns → b ≡ c
-    → (record { marks = ms; has_no_elements = b } : Given) ≡ (record { marks = ns; has_no_elements = c } : Given)
-same_given ms ns b c e f =
-    ap (λ m. (record { marks = m; has_no_elements = b } : Given)) e ∙ ap (λ x. (record { marks = ns; has_no_elements = x } : Given)) f
+abbrev pub given_as : Marks → Bool → Given
+given_as ms b = record { marks = ms; has_no_elements = b }
 
-pub nothing_more : (g : Given) → followed g (given []) ≡ record { marks = g.marks; has_no_elements = g.has_no_elements }
-nothing_more g = same_given (g.marks ++ []) g.marks (g.has_no_elements || false) g.has_no_elements (append-nil g.marks) (or_false g.has_no_elements)
+pub nothing_more : (g : Given) → followed g (given []) ≡ given_as g.marks g.has_no_elements
+nothing_more g =
+    ap (λ m. given_as m (g.has_no_elements || false)) (append-nil g.marks) ∙ ap (given_as g.marks) (or_false g.has_no_elements)
 
 -- ---- levels
 

@@ -1,5 +1,5 @@
 -- A part that is opened is a level behind the others.
-use Rattle.std.proofs.Common.{◌≡◌, ℕ, ◌+◌, ◌-◌, ◌<◌, ◌≤◌, Bool, List, [], ◌∷◌, drop, Result, Ok, Err, refl, sym, ap, ◌∙◌, arith}
+use Rattle.std.proofs.Common.{◌≡◌, ℕ, ◌+◌, ◌-◌, ◌<◌, ◌≤◌, Bool, List, [], ◌∷◌, drop, Result, Ok, Err, refl, sym, ap, ◌∙◌}
 use Rattle.eb_syntax.specs.Tree.{GroupPart}
 use Rattle.eb_syntax.specs.declared.tree.AP.{AP}
 use Rattle.eb_syntax.specs.declared.tree.PW.{PW}

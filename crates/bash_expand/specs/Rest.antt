@@ -1,5 +1,5 @@
 -- What is left of words that are expanded in part, as the meaning of words has it.
-use Rattle.std.specs.Prelude.{ℕ, ℤ, ◌-◌, Bool, true, false, List, [], ◌∷◌, ◌++◌, codes, decimal, drop, length, map, Option, Some, None}
+use Rattle.std.specs.Prelude.{ℕ, ℤ, ◌-◌, Bool, true, false, List, [], ◌∷◌, ◌++◌, codes, decimal, drop, length, map, Option, Some, None, if◌then◌else◌}
 use Rattle.std.specs.List.{flat_map, zip}
 use Rattle.bash_arith.specs.Numbers.{number_text}
 use Rattle.bash_patterns.specs.Reading.{pattern_of}
