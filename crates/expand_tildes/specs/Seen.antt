@@ -1,7 +1,7 @@
 -- Signs, as the meaning of words has them.
 use Rattle.word_meaning.specs.Tilde as meaning
-use Rattle.expand_tildes.specs.declared.sign.Sign.{Sign}
-use Rattle.expand_tildes.specs.declared.sign.Sign.TheVariants as sign
+use Rattle.expand_tildes.specs.declared.signs.Sign.{Sign}
+use Rattle.expand_tildes.specs.declared.signs.Sign.TheVariants as sign
 
 abbrev pub sign_of : Sign → meaning.Sign
 sign_of sign.Tilde = meaning.Tilde

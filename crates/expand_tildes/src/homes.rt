@@ -1,8 +1,8 @@
 ghost use Rattle.std.specs.Prelude.{◌≡◌, ◌&&◌, map};
-ghost use Rattle.word_meaning.specs.Tilde.{after_colon as after_colon_of, ends_tilde, is_tilde as is_tilde_of, may_begin as may_begin_of, may_follow as may_follow_of, operand_sign as operand_sign_of, sign as sign_of_piece};
+ghost use Rattle.word_meaning.specs.Tilde.{after_colon as after_colon_of, ends_tilde, is_tilde as is_tilde_of, may_begin as may_begin_of, may_follow as may_follow_of, operand_sign as sign_in_operand, sign as sign_in_word};
 ghost use Rattle.expand_tildes.specs.Seen.{sign_of};
 
-use crate::sign::{Sign, operand_sign, sign};
+use crate::signs::{Sign, sign_of_operand, sign_of_piece};
 use eb_syntax::{PW, Piece};
 use word_meaning::Tildes;
 
@@ -46,10 +46,10 @@ fn is_tilde(sign: Sign) -> bool
 
 // Whether a tilde before these pieces stands alone.
 fn ends_piece(tildes: Tildes, pieces: &[Piece]) -> bool
-    ensures { result ≡ ends_tilde tildes (map sign_of_piece pieces.now) }
+    ensures { result ≡ ends_tilde tildes (map sign_in_word pieces.now) }
 {
     for piece in pieces {
-        match sign(piece) {
+        match sign_of_piece(piece) {
             Sign::Gone => {}
             Sign::Slash => return true,
             Sign::Colon => return after_colon(tildes),
@@ -61,10 +61,10 @@ fn ends_piece(tildes: Tildes, pieces: &[Piece]) -> bool
 
 // Whether a tilde before these parts of the word of an operator stands alone.
 fn ends_operand(tildes: Tildes, parts: &[PW]) -> bool
-    ensures { result ≡ ends_tilde tildes (map operand_sign_of parts.now) }
+    ensures { result ≡ ends_tilde tildes (map sign_in_operand parts.now) }
 {
     for part in parts {
-        match operand_sign(part) {
+        match sign_of_operand(part) {
             Sign::Gone => {}
             Sign::Slash => return true,
             Sign::Colon => return after_colon(tildes),
@@ -76,14 +76,14 @@ fn ends_operand(tildes: Tildes, parts: &[PW]) -> bool
 
 /// Whether a piece stands for HOME, where `may` says whether a tilde may stand in its place, and these pieces stand behind it.
 pub fn is_home(tildes: Tildes, may: bool, piece: &Piece, behind: &[Piece]) -> bool
-    ensures { result ≡ (may && is_tilde_of (sign_of_piece piece.now) && ends_tilde tildes (map sign_of_piece behind.now)) }
+    ensures { result ≡ (may && is_tilde_of (sign_in_word piece.now) && ends_tilde tildes (map sign_in_word behind.now)) }
 {
-    may && is_tilde(sign(piece)) && ends_piece(tildes, behind)
+    may && is_tilde(sign_of_piece(piece)) && ends_piece(tildes, behind)
 }
 
 /// The same of a part of the word of an operator.
 pub fn is_home_in_operand(tildes: Tildes, may: bool, part: &PW, behind: &[PW]) -> bool
-    ensures { result ≡ (may && is_tilde_of (operand_sign_of part.now) && ends_tilde tildes (map operand_sign_of behind.now)) }
+    ensures { result ≡ (may && is_tilde_of (sign_in_operand part.now) && ends_tilde tildes (map sign_in_operand behind.now)) }
 {
-    may && is_tilde(operand_sign(part)) && ends_operand(tildes, behind)
+    may && is_tilde(sign_of_operand(part)) && ends_operand(tildes, behind)
 }

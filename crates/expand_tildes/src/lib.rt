@@ -2,7 +2,7 @@
 #![tactic(auto)]
 
 mod homes;
-mod sign;
+mod signs;
 
 pub use homes::{is_home, is_home_in_operand, may_begin, may_follow};
-pub use sign::{Sign, operand_sign, sign};
+pub use signs::{Sign, sign_of_operand, sign_of_piece};

@@ -1,5 +1,5 @@
 ghost use Rattle.std.specs.Prelude.{◌≡◌};
-ghost use Rattle.word_meaning.specs.Tilde.{operand_sign as operand_sign_of, sign as sign_of_piece};
+ghost use Rattle.word_meaning.specs.Tilde.{operand_sign as sign_in_operand, sign as sign_in_word};
 ghost use Rattle.expand_tildes.specs.Seen.{sign_of};
 
 use eb_syntax::{PW, Piece, Plain};
@@ -20,8 +20,8 @@ pub enum Sign {
 }
 
 /// What a piece of a word is: only an unquoted byte is a sign.
-pub fn sign(piece: &Piece) -> Sign
-    ensures { sign_of result ≡ sign_of_piece piece.now }
+pub fn sign_of_piece(piece: &Piece) -> Sign
+    ensures { sign_of result ≡ sign_in_word piece.now }
 {
     match piece {
         Piece::Continuation => Sign::Gone,
@@ -36,11 +36,11 @@ pub fn sign(piece: &Piece) -> Sign
 }
 
 /// The same of a part of the word of an operator: nothing in double quotes is a sign.
-pub fn operand_sign(part: &PW) -> Sign
-    ensures { sign_of result ≡ operand_sign_of part.now }
+pub fn sign_of_operand(part: &PW) -> Sign
+    ensures { sign_of result ≡ sign_in_operand part.now }
 {
     match part {
-        PW::Piece(piece) => sign(piece),
+        PW::Piece(piece) => sign_of_piece(piece),
         PW::Byte(_) | PW::Double(_) | PW::Quoted(_) => Sign::Other,
     }
 }
