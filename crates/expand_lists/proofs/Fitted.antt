@@ -16,7 +16,7 @@ use Rattle.expand_lists.specs.Fit.{LeadsTo}
 
 -- both limits, then another part
 abbrev both : Bool → Bool → Doing (Unit {0}) → Doing (Unit {0})
-both a b p = (if a then pure tt else refuse fault.ValueSize) >> ((if b then pure tt else refuse fault.TotalSize) >> p)
+both a b p = (if a then pure {A = Unit {0}} tt else refuse fault.ValueSize) >> ((if b then pure {A = Unit {0}} tt else refuse fault.TotalSize) >> p)
 
 by_tests : (a b : Bool) (p : Doing (Unit {0})) (at : State) (t : Text) (n : ℕ) → is_short t ≡ a → nat_le n 33554432 ≡ b
     → both (is_short t) (nat_le n 33554432) p at ≡ both a b p at

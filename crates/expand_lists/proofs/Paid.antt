@@ -15,7 +15,7 @@ use Rattle.expand_lists.specs.Fit.{LeadsTo}
 -- ---- one text
 
 short_is : (t : Text) (at : State) → length t ≤ 1048576 → one_text t at ≡ (spend (text_cost t) >> pure t) at
-short_is t at le = ap (λ b. ((if b then pure tt else refuse fault.ValueSize) >> (spend (text_cost t) >> pure t)) at) (le-leb (length t) 1048576 le)
+short_is t at le = ap (λ b. ((if b then pure {A = Unit {0}} tt else refuse fault.ValueSize) >> (spend (text_cost t) >> pure t)) at) (le-leb (length t) 1048576 le)
 
 pub text_paid : (t : Text) (at after : State) → length t ≤ 1048576 → spend (text_cost t) at ≡ Ended tt after → one_text t at ≡ Ended t after
 text_paid t at after le e = short_is t at le ∙ ap (λ o. and_then o (λ _. pure t)) e
@@ -27,7 +27,7 @@ text_not_paid t stop.Failed at after le is e = absurd (cc)
 text_not_paid t stop.Memory at after le is e = absurd (cc)
 
 pub text_too_long : (t : Text) (at : State) → 1048576 < length t → one_text t at ≡ Faulted fault.ValueSize at.left at.host.asked
-text_too_long t at lt = ap (λ b. ((if b then pure tt else refuse fault.ValueSize) >> (spend (text_cost t) >> pure t)) at) (lt-leb (length t) 1048576 lt)
+text_too_long t at lt = ap (λ b. ((if b then pure {A = Unit {0}} tt else refuse fault.ValueSize) >> (spend (text_cost t) >> pure t)) at) (lt-leb (length t) 1048576 lt)
 
 -- ---- all fields
 

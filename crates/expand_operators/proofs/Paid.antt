@@ -35,9 +35,12 @@ abbrev by_length : (b : Bool) (t : Text) → Result Text ParamErr
 by_length b t = if b then Ok t else Err refusal.ValueSize
 
 abbrev fit : Bool → Text → Doing Text
-fit b t = (if b then pure tt else refuse fault.ValueSize) >> pure t
+fit b t = (if b then pure {A = Unit {0}} tt else refuse fault.ValueSize) >> pure t
 
-same : (t u : Text) → Ok {E = ParamErr} t ≡ Ok u → t ≡ u
+abbrev as_text : Text → Result Text ParamErr
+as_text t = Ok t
+
+same : (t u : Text) → as_text t ≡ as_text u → t ≡ u
 same t u e = cc
 
 pub fits_there : (t u : Text) → checked t ≡ Ok u → Makes (Ok u) (fitting t)

@@ -81,6 +81,7 @@ pub fn show(
 }
 
 /// `${#..}`: the bytes of a text, the elements of a list.
+#[tactic(auto, using(crate::proofs::Counted::counted))]
 pub fn length_of(found: &Found) -> usize
     ensures { result ≡ length_in (found_of found.now) }
 {

@@ -1,53 +1,50 @@
-ghost use Rattle.std.specs.Prelude.{◌≡◌, not};
+ghost use Rattle.std.specs.Prelude.{◌≡◌, not, IfOk};
 ghost use Rattle.std.specs.List.{join_with_byte};
 ghost use Rattle.eb_bytes.specs.Text.{has_bytes};
 ghost use Rattle.word_meaning.specs.Operators.{has_colon as has_colon_of, is_empty as is_empty_of, is_unset as is_unset_of, is_unset_list as is_unset_list_of, lacks as lacks_of, no_other as no_other_of};
 ghost use Rattle.expand_marks.specs.Seen.{given_of};
 ghost use Rattle.expand_values.specs.Seen.{found_of};
 
-use eb_bytes::Bytes;
+use crate::shown::{length_of, texts};
+use eb_bytes::{Bytes, Memory};
 use eb_syntax::ValueOp;
 use expand_marks::Given;
-use expand_values::{Found, Source};
+use expand_values::Found;
 use std::alloc::Global;
 
 // Whether there is no value, or no element.
+#[tactic(auto, using(crate::proofs::Counted::none_there))]
 fn is_unset(found: &Found) -> bool
     ensures { result ≡ is_unset_of (found_of found.now) }
 {
     match found {
         Found::One(text, _) => text.is_none(),
-        Found::Many(_, Source::Array(elements)) => elements.is_empty(),
-        Found::Many(_, Source::Arguments(texts)) => texts.is_empty(),
+        Found::Many(_, _) => length_of(found) == 0,
     }
 }
 
 // Whether texts joined by blanks are the empty text.
+#[tactic(auto, using(crate::proofs::Counted::nothing_joined))]
 fn are_nothing(texts: &[Bytes]) -> bool
     ensures { result ≡ not (has_bytes (join_with_byte 32 texts.now)) }
 {
     match texts {
         [] => true,
-        [text] => text.is_empty(),
-        _ => false,
+        [first, others @ ..] => first.is_empty() && others.is_empty(),
     }
 }
 
 // Whether the value is the empty text, or the elements joined by blanks are.
-fn is_empty(found: &Found) -> bool
-    ensures { result ≡ is_empty_of (found_of found.now) }
+fn is_empty(alloc: Global, found: &Found) -> Result<bool, Memory>
+    ensures { IfOk result (λ empty. empty ≡ is_empty_of (found_of found.now)) }
 {
     match found {
-        Found::One(Some(text), _) => text.is_empty(),
-        Found::One(None, _) => true,
-        Found::Many(_, Source::Array(elements)) => {
-            let mut texts = elements.iter();
-            match texts.next() {
-                None => true,
-                Some((_, first)) => first.is_empty() && texts.next().is_none(),
-            }
+        Found::One(Some(text), _) => Ok(text.is_empty()),
+        Found::One(None, _) => Ok(true),
+        Found::Many(_, source) => {
+            let texts = texts(alloc, source)?;
+            Ok(are_nothing(texts.as_slice()))
         }
-        Found::Many(_, Source::Arguments(texts)) => are_nothing(texts.as_slice()),
     }
 }
 
@@ -62,10 +59,19 @@ pub fn has_colon(op: ValueOp) -> bool
 }
 
 /// Whether there is no value for the operator.
-pub fn lacks(op: ValueOp, found: &Found) -> bool
-    ensures { result ≡ lacks_of op (found_of found.now) }
+///
+/// # Errors
+/// `Memory` where there is no room to look at the elements of a list.
+pub fn lacks(alloc: Global, op: ValueOp, found: &Found) -> Result<bool, Memory>
+    ensures { IfOk result (λ lacking. lacking ≡ lacks_of op (found_of found.now)) }
 {
-    is_unset(found) || (has_colon(op) && is_empty(found))
+    if is_unset(found) {
+        return Ok(true);
+    }
+    if has_colon(op) {
+        return is_empty(alloc, found);
+    }
+    Ok(false)
 }
 
 // Whether it is a list of `@` without elements.

@@ -1,4 +1,4 @@
-use Rattle.std.proofs.Common.{◌≡◌, ◌≤◌, refl, ◌∙◌, arith}
+use Rattle.std.proofs.Common.{◌≡◌, ◌≤◌, ◌/◌, refl, ◌∙◌, arith}
 use Rattle.bash_params.specs.Cost.{match_cost}
 use Rattle.shell_state.specs.Spending.{left}
 use Rattle.bash_cond.proofs.Matched.{no_time, once_more, times_stopped}
@@ -24,6 +24,6 @@ loop-turn-preserved g c = record {
 
 pub returns-in-Err-clause-means : goal.returns-in-Err-clause-means
 returns-in-Err-clause-means g c at e =
-    times_stopped c.in-Err.stopped c.loop-turn._turn c.times (match_cost c.args.bytes c.args.marks) at (left c.loop-turn.budget) (left c.pay_match.new.budget)
+    times_stopped c.in-Err.stopped c.loop-turn._turn (c.args.bytes / 64) (match_cost c.args.bytes c.args.marks) at (left c.loop-turn.budget) (left c.pay_match.new.budget)
     c.in-Err.ensures.only_spent (omega (arith, c.loop-turn-test.true, c.loop-turn.auto._turn-end)) (c.loop-turn.invariant.spent at e)
     (c.in-Err.ensures.means (record at { left = left c.loop-turn.budget }) refl)
