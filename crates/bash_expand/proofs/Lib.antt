@@ -1,0 +1,4 @@
+pub mod Levels
+pub mod Opened
+pub mod OpenedMore
+pub mod Turns

@@ -1,0 +1,10 @@
+//! The expansion of words in turns: what is left of a word is kept, and each command substitution is handed back to
+//! whoever runs it (Bash Reference Manual, "Shell Expansions").
+#![tactic(auto)]
+
+mod expander;
+mod level;
+mod scene;
+
+pub use expander::{Expanded, Expander, Job, Turn, Wanted};
+pub use level::{Act, Level, Parts, Target, Use};

@@ -1,0 +1,61 @@
+ghost use Rattle.std.specs.Prelude.{◌≡◌};
+ghost use Rattle.word_meaning.specs.Tilde.{may_begin as may_begin_of};
+ghost use Rattle.bash_expand.specs.Acts.{Opens, Refuses};
+
+use crate::level::{Act, Level, Parts, Use};
+use eb_bytes::Bytes;
+use expand_marks::Given;
+use shell_state::{Fault, Opts, Stop};
+use shell_vars::Vars;
+use std::alloc::Global;
+use word_meaning::{Mode, Tildes};
+
+/// What a part of a word is looked at by.
+#[derive(Clone, Copy)]
+pub(crate) struct Scene<'a> {
+    pub(crate) alloc: Global,
+    pub(crate) vars: &'a Vars,
+    pub(crate) args: &'a [Bytes],
+    pub(crate) opts: Opts,
+    pub(crate) status: u8,
+    /// How many parts may still be opened in it.
+    pub(crate) room: usize,
+}
+
+// Whether a tilde may stand at the start.
+pub(crate) fn may_begin(tildes: Tildes) -> bool
+    ensures { result ≡ may_begin_of tildes }
+{
+    match tildes {
+        Tildes::Nowhere => false,
+        Tildes::AtStart | Tildes::InValue => true,
+    }
+}
+
+/// Opens a part, where one more may be open.
+pub(crate) fn open(scene: &Scene<'_>, parts: Parts, mode: Mode, tildes: Tildes, used: Use) -> Result<Act, Stop>
+    ensures { Opens result parts mode tildes used scene.now.room }
+{
+    if scene.room == 0 {
+        return Err(Stop::Fault(Fault::DepthLimit));
+    }
+    Ok(Act::Open(Level {
+        parts,
+        at: 0,
+        mode,
+        tildes,
+        may_be_home: may_begin(tildes),
+        found: Given::new(scene.alloc),
+        used,
+    }))
+}
+
+/// The refusal of a form of the language.
+pub(crate) fn unsupported(alloc: Global, form: &[u8]) -> Stop
+    ensures { Refuses result form.now }
+{
+    match Bytes::from_slice(alloc, form) {
+        Ok(form) => Stop::Fault(Fault::Unsupported(form)),
+        Err(_) => Stop::Memory,
+    }
+}

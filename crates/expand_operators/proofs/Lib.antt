@@ -1,0 +1,4 @@
+mod Counted
+mod Cut
+mod Each
+mod Paid

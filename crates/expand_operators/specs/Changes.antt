@@ -1,0 +1,51 @@
+-- What an operator makes of one text, by a pattern that is compiled.
+use Rattle.std.specs.Prelude.{◌≡◌, ◌≤◌, Result, Ok, Err, length}
+use Rattle.std.specs.Option.{option_copied, option_map}
+use Rattle.bash_params.specs.Case.{case_changed}
+use Rattle.bash_params.specs.Cost.{match_cost, replace_cost}
+use Rattle.bash_params.specs.Replacement.{replaced}
+use Rattle.bash_params.specs.Stripping.{stripped}
+use Rattle.bash_patterns.specs.Pattern.{meaning}
+use Rattle.eb_bytes.specs.Text.{Text}
+use Rattle.bash_params.specs.declared.error.ParamErr.{ParamErr}
+use Rattle.bash_params.specs.declared.error.ParamErr.TheVariants as refusal
+use Rattle.shell_state.specs.Outcome.{Doing, Outcome, Ended, Faulted, ◌>>◌, left_of, pure}
+use Rattle.shell_state.specs.Spending.{spend}
+use Rattle.shell_state.specs.State.{State}
+use Rattle.shell_state.specs.declared.fault.Fault.TheVariants as fault
+use Rattle.shell_state.specs.declared.stop.Stop.{Stop}
+use Rattle.shell_state.specs.declared.stop.Stop.TheVariants as stop
+use Rattle.word_meaning.specs.Operators.{case_of, fitting, replace_of, strip_of}
+use Rattle.word_meaning.specs.References as refs
+use Rattle.expand_values.specs.Seen.{found_of}
+use Rattle.expand_values.specs.declared.found.Found.{Found}
+use Rattle.expand_operators.specs.declared.change.Change.{Change}
+use Rattle.expand_operators.specs.declared.change.Change.TheVariants as change
+
+abbrev pub changes_text : Change → Text → Doing Text
+changes_text (change.Strip op form marks) t =
+    spend (match_cost (length t) marks) >> pure (stripped (strip_of op) (meaning form.now) t)
+changes_text (change.Replace r) t =
+    spend (replace_cost (length t) r.marks) >> fitting (replaced (replace_of r.op) (option_map meaning (option_copied r.pattern)) r.by.now t)
+changes_text (change.Case op form) t = pure (case_changed (case_of op) (meaning form.now) t)
+
+-- a part of a run that changes nothing ends in this, or there was no room
+abbrev pub Makes : Result Text Stop → Doing Text → Type 0
+Makes (Ok u) p = (at : State) → p at ≡ Ended u at
+Makes (Err (stop.Fault why)) p = (at : State) → p at ≡ Faulted why at.left at.host.asked
+Makes (Err stop.Failed) p = ⊥
+Makes (Err stop.Memory) p = (at : State) → left_of (p at) ≤ at.left
+
+-- a text that is too long is a fault
+abbrev pub IsTooLong : Stop → ParamErr → Type 0
+IsTooLong (stop.Fault why) e = (e ≡ refusal.ValueSize) × (why ≡ fault.ValueSize)
+IsTooLong stop.Failed e = ⊥
+IsTooLong stop.Memory e = Unit {0}
+
+-- what is found is how a part of a run ends, in the state at that moment, or its fault is; where there is no room, no more
+-- steps were spent than the part spends
+abbrev pub TellsFound : Result Found Stop → Outcome refs.Found → State → Type 0
+TellsFound (Ok f) r at = r ≡ Ended (found_of f) at
+TellsFound (Err (stop.Fault fault)) r at = r ≡ Faulted fault at.left at.host.asked
+TellsFound (Err stop.Failed) r at = ⊥
+TellsFound (Err stop.Memory) r at = left_of r ≤ at.left

@@ -1,0 +1,13 @@
+//! The operators of `${..}`, once their words are expanded (Bash Reference Manual, "Shell Parameter Expansion").
+#![tactic(auto)]
+
+mod change;
+mod changed;
+mod shown;
+mod sliced;
+mod values;
+
+pub use changed::compile;
+pub use shown::{indices, length_of, show, texts};
+pub use sliced::slice;
+pub use values::{has_colon, lacks, no_other};
