@@ -77,9 +77,9 @@ pub given_more : (sub : Sub) (j : Job) (ls : List Level) (l k : Level) (g : Give
 given_more sub j ls l k g at same e =
     is_open sub j ls l (Ended g at)
     ∙ ap (λ o. and_then o (concluded sub j))
-      (pushed sub 201 ls l (Ended g at)
-       ∙ ap (λ f. unwound sub 201 ls (f at)) (sym (same (followed (given_in l) g)))
-       ∙ ap (λ h. unwound sub 201 ls (from_here sub (201 - length ls) k h at)) (sym e))
+    (pushed sub 201 ls l (Ended g at)
+    ∙ ap (λ f. unwound sub 201 ls (f at)) (sym (same (followed (given_in l) g)))
+    ∙ ap (λ h. unwound sub 201 ls (from_here sub (201 - length ls) k h at)) (sym e))
     ∙ sym (goes_on sub j ls k at)
 
 -- ---- opened parts

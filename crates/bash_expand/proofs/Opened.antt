@@ -72,10 +72,10 @@ pub opens : (result : Result Act Stop) (o : Open) (m : Mode) (w : Tildes) (used 
     → Opens result o m w used n → Acts result f n at
 opens (Ok a) o m w used n f at b e h =
     λ sub. e sub ∙ ap (λ x. and_then x (ended sub (inside sub n) used)) (opened_inside sub n (stands o m w) at h.0)
-      ∙ sym (b sub n m w used at) ∙ ap (λ c. acted sub n c at) (sym h.1)
+    ∙ sym (b sub n m w used at) ∙ ap (λ c. acted sub n c at) (sym h.1)
 opens (Err (stop.Fault why)) o m w used n f at b e h =
     λ sub. e sub ∙ ap (λ x. and_then x (ended sub (inside sub n) used)) (opened_nowhere sub n (stands o m w) at h.0)
-      ∙ ap (λ c. Faulted c at.left at.host.asked) (sym h.1)
+    ∙ ap (λ c. Faulted c at.left at.host.asked) (sym h.1)
 opens (Err stop.Failed) o m w used n f at b e h = absurd h
 opens (Err stop.Memory) o m w used n f at b e h = tt
 

@@ -25,7 +25,7 @@ module _ (sub : Sub) (j : Job) (ls : List Level) (l k : Level) (at : State) wher
   -- a level from which a part is taken: it goes on as the one behind that part
   pub taken : (r : Outcome Given)
       → going sub (inside sub ((201 - length ls) - 1)) l.mode l.tildes l.may_be_home l.at l.parts (given_in l) at
-        ≡ and_then r (λ g. going sub (inside sub ((201 - length ls) - 1)) k.mode k.tildes k.may_be_home k.at k.parts (followed (given_in l) g))
+      ≡ and_then r (λ g. going sub (inside sub ((201 - length ls) - 1)) k.mode k.tildes k.may_be_home k.at k.parts (followed (given_in l) g))
       → l.used ≡ k.used
       → left_over sub j (ls ++ l ∷ []) (Ended (given []) at) ≡ with_inner sub j ls (then_others sub (201 - length ls) k (given_in l) r)
   taken r e same =
@@ -42,7 +42,7 @@ gives sub j ls k before g at e = ap (λ h. with_inner sub j ls (from_here sub (2
 -- it is opened: it is a level behind
 pub opens_behind : (sub : Sub) (j : Job) (ls : List Level) (k inner : Level) (at : State)
     → with_inner sub j ls (then_others sub (201 - length ls) k (given_in k) (from_here sub ((201 - length ls) - 1) inner (given_in inner) at))
-      ≡ left_over sub j ((ls ++ k ∷ []) ++ inner ∷ []) (Ended (given []) at)
+    ≡ left_over sub j ((ls ++ k ∷ []) ++ inner ∷ []) (Ended (given []) at)
 opens_behind sub j ls k inner at =
     let room : (201 - length ls) - 1 ≡ 201 - length (ls ++ k ∷ []) = by (length-append ls (k ∷ [])) in
     ap (λ d. with_inner sub j ls (then_others sub (201 - length ls) k (given_in k) (from_here sub d inner (given_in inner) at))) room
@@ -55,12 +55,12 @@ opens_behind sub j ls k inner at =
 -- its commands are run, and what they print stands behind what was given before
 pub runs : (sub : Sub) (j : Job) (ls : List Level) (k : Level) (quoted : Bool) (items : Items) (at : State)
     → with_inner sub j ls (then_others sub (201 - length ls) k (given_in k) (and_then (sub items at) (λ t. pure (given (emitted quoted t)))))
-      ≡ and_then (sub items at) (λ t p. left_over sub j (ls ++ k ∷ []) (Ended (given (emitted quoted t)) p))
+    ≡ and_then (sub items at) (λ t p. left_over sub j (ls ++ k ∷ []) (Ended (given (emitted quoted t)) p))
 runs sub j ls k quoted items at = by (sub items at)
   where
     by : (o : Outcome Text)
         → with_inner sub j ls (then_others sub (201 - length ls) k (given_in k) (and_then o (λ t. pure (given (emitted quoted t)))))
-          ≡ and_then o (λ t p. left_over sub j (ls ++ k ∷ []) (Ended (given (emitted quoted t)) p))
+        ≡ and_then o (λ t p. left_over sub j (ls ++ k ∷ []) (Ended (given (emitted quoted t)) p))
     by (Ended t p) =
         ap (λ o. and_then o (concluded sub j)) (sym (pushed sub 201 ls k (Ended (given (emitted quoted t)) p)))
         ∙ sym (is_open sub j ls k (Ended (given (emitted quoted t)) p))

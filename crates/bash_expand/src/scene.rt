@@ -33,7 +33,13 @@ pub(crate) fn may_begin(tildes: Tildes) -> bool
 }
 
 /// Opens a part, where one more may be open.
-pub(crate) fn open(scene: &Scene<'_>, parts: Parts, mode: Mode, tildes: Tildes, used: Use) -> Result<Act, Stop>
+pub(crate) fn open(
+    scene: &Scene<'_>,
+    parts: Parts,
+    mode: Mode,
+    tildes: Tildes,
+    used: Use,
+) -> Result<Act, Stop>
     ensures { Opens result parts mode tildes used scene.now.room }
 {
     if scene.room == 0 {

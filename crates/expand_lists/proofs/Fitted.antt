@@ -26,10 +26,10 @@ by_tests a b p at t n e f = ap (λ x. both x (nat_le n 33554432) p at) e ∙ ap 
 pub next_fits : (n more : ℕ) (t : Text) (ts all : List Text) → length t ≤ 1048576 → n + (length t + 1) ≤ 33554432 → more ≡ n + (length t + 1)
     → LeadsTo (Ok n) (t ∷ ts) all → LeadsTo (Ok more) ts all
 next_fits n more t ts all short few e l = (
-    (let grown : size_of (t ∷ ts) ≡ (length t + 1) + size_of ts = sum_by-cons (λ u. length u + 1) t ts in omega (arith, e, l.0, grown)),
-    λ at. l.1 at ∙ by_tests true true (fields_fit (n + (length t + 1)) ts) at t (n + (length t + 1)) (le-leb (length t) 1048576 short) (le-leb (n + (length t + 1)) 33554432 few)
+  (let grown : size_of (t ∷ ts) ≡ (length t + 1) + size_of ts = sum_by-cons (λ u. length u + 1) t ts in omega (arith, e, l.0, grown)),
+  λ at. l.1 at ∙ by_tests true true (fields_fit (n + (length t + 1)) ts) at t (n + (length t + 1)) (le-leb (length t) 1048576 short) (le-leb (n + (length t + 1)) 33554432 few)
       ∙ ap (λ k. fields_fit k ts at) (sym e),
-  )
+)
 
 -- a field that is too long
 pub too_long : (n : ℕ) (t : Text) (ts all : List Text) → 1048576 < length t → LeadsTo (Ok n) (t ∷ ts) all

@@ -22,7 +22,11 @@ const MOST_IN_ALL: u64 = 33_554_432;
 /// # Errors
 /// `ValueSize` where it has more than 1,048,576 bytes; `StepsSpent` where so many steps are not left.
 #[tactic(auto, using(crate::proofs::Paid::text_paid, crate::proofs::Paid::text_not_paid, crate::proofs::Paid::text_too_long))]
-pub fn one_text<L: Ledger>(text: Bytes, budget: &mut Budget, steps: &mut Steps<L>) -> Result<Bytes, Stop>
+pub fn one_text<L: Ledger>(
+    text: Bytes,
+    budget: &mut Budget,
+    steps: &mut Steps<L>,
+) -> Result<Bytes, Stop>
     ensures means { (at : State) → at.left ≡ left budget.old →
         Tells result (one_text_of text at) (record at { left = left budget.new }) }
     ensures no_file { result ≢ Err Stop.Failed }
@@ -82,7 +86,11 @@ fn size(fields: &[Bytes]) -> Result<u64, Stop>
 /// `ValueSize` where a field has more than 1,048,576 bytes, and `TotalSize` where this one and those before it, each with
 /// one byte more, have more than 33,554,432; then `StepsSpent` where so many steps are not left.
 #[tactic(auto, using(crate::proofs::Paid::list_paid, crate::proofs::Paid::list_not_paid, crate::proofs::Paid::list_unfit))]
-pub fn all_fields<L: Ledger>(fields: Items<Bytes>, budget: &mut Budget, steps: &mut Steps<L>) -> Result<Items<Bytes>, Stop>
+pub fn all_fields<L: Ledger>(
+    fields: Items<Bytes>,
+    budget: &mut Budget,
+    steps: &mut Steps<L>,
+) -> Result<Items<Bytes>, Stop>
     ensures means { (at : State) → at.left ≡ left budget.old →
         Tells result (all_fields_of fields at) (record at { left = left budget.new }) }
     ensures no_file { result ≢ Err Stop.Failed }

@@ -154,7 +154,13 @@ fn stop_of(error: ParamErr) -> Stop
 fn replace_text(alloc: Global, change: &Replacing<'_>, text: &[u8]) -> Result<Bytes, Stop>
     ensures { Makes result (fitting (replaced (replace_in change.now.op) (option_map meaning (option_copied change.now.pattern)) change.now.by.now text.now)) }
 {
-    match bash_params::replace(alloc, replace_of(change.op), text, change.pattern, change.by) {
+    match bash_params::replace(
+        alloc,
+        replace_of(change.op),
+        text,
+        change.pattern,
+        change.by,
+    ) {
         Ok(text) => Ok(text),
         Err(error) => Err(stop_of(error)),
     }
@@ -181,7 +187,12 @@ pub(crate) fn change_text<L: Ledger>(
             Ok(()) => Ok(strip(alloc, strip_of(*op), text, pattern)?),
             Err(stopped) => Err(stopped),
         },
-        Change::Replace(replacing) => match pay_replacement(text.len(), replacing.marks, budget, steps) {
+        Change::Replace(replacing) => match pay_replacement(
+            text.len(),
+            replacing.marks,
+            budget,
+            steps,
+        ) {
             Ok(()) => replace_text(alloc, replacing, text),
             Err(stopped) => Err(stopped),
         },

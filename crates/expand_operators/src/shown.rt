@@ -112,8 +112,14 @@ pub fn indices(alloc: Global, found: Found) -> Result<Found, Memory>
     ensures { IfOk result (λ indices. found_of indices ≡ with_indices (found_of found)) }
 {
     match found {
-        Found::Many(star, Source::Array(elements)) => Ok(Found::Many(star, Source::Arguments(keys(alloc, &elements)?))),
-        Found::Many(star, Source::Arguments(_)) => Ok(Found::Many(star, Source::Arguments(List::new(alloc)))),
+        Found::Many(star, Source::Array(elements)) => Ok(Found::Many(
+            star,
+            Source::Arguments(keys(alloc, &elements)?),
+        )),
+        Found::Many(star, Source::Arguments(_)) => Ok(Found::Many(
+            star,
+            Source::Arguments(List::new(alloc)),
+        )),
         Found::One(text, place) => Ok(Found::One(text, place)),
     }
 }

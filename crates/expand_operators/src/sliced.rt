@@ -32,7 +32,13 @@ fn stop_of(alloc: Global, name: &[u8], error: ParamErr) -> Stop
 /// `BadSubstitution` with the name where the length of a list is negative, or the end of a text lies before its offset;
 /// `Memory`.
 #[tactic(auto, using(crate::proofs::Cut::refused_text, crate::proofs::Cut::refused_list))]
-pub fn slice(alloc: Global, name: &[u8], offset: i64, length: Option<i64>, found: &Found) -> Result<Found, Stop>
+pub fn slice(
+    alloc: Global,
+    name: &[u8],
+    offset: i64,
+    length: Option<i64>,
+    found: &Found,
+) -> Result<Found, Stop>
     ensures { (at : State) → Finds result (slices name.now offset length (found_of found.now) at) at }
 {
     match found {
@@ -49,12 +55,23 @@ pub fn slice(alloc: Global, name: &[u8], offset: i64, length: Option<i64>, found
 }
 
 // The elements of a list from an offset on; before the arguments stands the name of the shell.
-fn slice_source(alloc: Global, source: &Source, offset: i64, length: Option<i64>) -> Result<Vec<Bytes>, ParamErr>
+fn slice_source(
+    alloc: Global,
+    source: &Source,
+    offset: i64,
+    length: Option<i64>,
+) -> Result<Vec<Bytes>, ParamErr>
     ensures ok { IfOk result (λ texts. source_sliced offset length (source_of source.now) ≡ Ok texts.items) }
     ensures refused { IfErr result (λ e. Refuses e (source_sliced offset length (source_of source.now))) }
 {
     match source {
         Source::Array(elements) => slice_array(alloc, elements, offset, length),
-        Source::Arguments(texts) => slice_parameters(alloc, b"ebuild", texts.as_slice(), offset, length),
+        Source::Arguments(texts) => slice_parameters(
+            alloc,
+            b"ebuild",
+            texts.as_slice(),
+            offset,
+            length,
+        ),
     }
 }

@@ -53,7 +53,10 @@ pub fn has_colon(op: ValueOp) -> bool
     ensures { result ≡ has_colon_of op }
 {
     match op {
-        ValueOp::DefaultOfEmpty | ValueOp::AssignOfEmpty | ValueOp::ErrorOfEmpty | ValueOp::OtherOfFilled => true,
+        ValueOp::DefaultOfEmpty
+        | ValueOp::AssignOfEmpty
+        | ValueOp::ErrorOfEmpty
+        | ValueOp::OtherOfFilled => true,
         ValueOp::Default | ValueOp::Assign | ValueOp::Error | ValueOp::Other => false,
     }
 }
