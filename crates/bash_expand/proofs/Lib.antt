@@ -1,4 +1,0 @@
-pub mod Levels
-pub mod Opened
-pub mod OpenedMore
-pub mod Turns
