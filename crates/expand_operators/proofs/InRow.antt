@@ -1,5 +1,6 @@
 -- What an operator makes of the texts of a list, one after another.
-use Rattle.std.proofs.Common.{◌≡◌, ◌≢◌, ℕ, ◌≤◌, Bool, Option, Some, None, List, [], ◌∷◌, ◌++◌, append_assoc, Result, Ok, Err, refl, sym, ap, subst, ◌∙◌, arith}
+use Rattle.std.proofs.Common.{◌≡◌, ◌≢◌, ℕ, ◌+◌, ◌<◌, ◌≤◌, drop, get_or, length, Bool, Option, Some, None, List, [], ◌∷◌, ◌++◌, append_assoc, Result, Ok, Err, refl, sym, ap, subst, ◌∙◌, arith}
+use Rattle.std.proofs.lemmas.List.{drop_more}
 use Rattle.eb_bytes.specs.Text.{Text}
 use Rattle.shell_state.specs.Outcome.{Doing, Outcome, Ended, Faulted, ◌<$>◌, and_then, left_of, pure, Tells}
 use Rattle.shell_state.specs.State.{State}
@@ -62,6 +63,10 @@ one_stopped f done t ts left why at after e h last = subst (λ l. Tells {A = Lis
     by (stop.Fault w) g = ap (with_others f done ts) g
     by stop.Failed g = let l : left_of (with_others f done ts (f t at)) ≤ left_of (f t at) = less (f t at) in omega (arith, g, l)
     by stop.Memory g = let l : left_of (with_others f done ts (f t at)) ≤ left_of (f t at) = less (f t at) in omega (arith, g, l)
+
+-- the next text
+pub front : (ts : List Text) (i : ℕ) (x y : Text) → i < length ts → x ≡ get_or ts i x → y ≡ x → drop i ts ≡ y ∷ drop (i + 1) ts
+front ts i x y lt e f = drop_more ts i x lt ∙ ap (λ z. z ∷ drop (i + 1) ts) (sym (f ∙ e))
 
 -- ---- the same, by the steps of a budget
 
