@@ -1,6 +1,6 @@
 -- Operators by a pattern that is compiled.
-use Rattle.std.proofs.Common.{◌≡◌, ℕ, ◌≤◌, Bool, true, false, List, length, Option, Some, None, Result, Ok, Err, refl, sym, ap, subst, ◌∙◌, arith}
-use Rattle.std.specs.Prelude.{if◌then◌else◌}
+use Rattle.std.proofs.Common.{◌≡◌, ℕ, ◌≤◌, Bool, true, false, List, [], ◌∷◌, length, Option, Some, None, Result, Ok, Err, refl, sym, ap, subst, ◌∙◌, arith}
+use Rattle.std.specs.Prelude.{◌↔◌, IsTrue, if◌then◌else◌, not}
 use Rattle.bash_cond.specs.Patterns.{Compiles}
 use Rattle.bash_params.specs.Case.{case_changed}
 use Rattle.bash_params.specs.Cost.{match_cost, replace_cost}
@@ -26,7 +26,7 @@ use Rattle.word_meaning.specs.Marks.{Marks, unquoted}
 use Rattle.word_meaning.specs.Operators.{case_of, changes_case, each_value, fitting, formed, replace_of, replaces, strip_of, strips}
 use Rattle.word_meaning.specs.References.{Found}
 use Rattle.expand_values.specs.declared.found.Found.{Found as Kept}
-use Rattle.expand_operators.specs.Changes.{TellsFound, replaces_by}
+use Rattle.expand_operators.specs.Changes.{TellsFound, replaces_by, unless}
 use Rattle.expand_operators.proofs.Lasting.{Falls, bound_falls, fitting_falls, pure_falls, value_falls}
 
 -- what is made by a pattern, where groups are not nested too deep
@@ -122,11 +122,29 @@ replace_falls op ms by found f =
     (never_rises (replace_cost (length t) (length ms))) (λ u. fitting_falls (replaced (replace_of op) (tests (has_bytes (unquoted ms)) f) by t)))
     found
 
-pub replaced_so : (result : Result Kept Stop) (op : ReplaceOp) (ms : Marks) (extended : Bool) (by : Text) (pattern : Pattern) (found : Found) (at after : State)
-    → Compiles (Ok pattern) (pattern_of extended ms)
-    → TellsFound result (replace_by op ms by found (meaning pattern) at) after → TellsFound result (replaces_by op ms extended by found at) after
-replaced_so result op ms extended by pattern found at after c h =
-    subst (λ o. TellsFound result o after) (sym (goes_by pattern (pattern_of extended ms) (replace_by op ms by found) at c)) h
+no_bytes : (b : Bool) (t : Text) → (IsTrue b ↔ (t ≡ [])) → b ≡ not (has_bytes t)
+no_bytes true [] h = refl
+no_bytes true (x ∷ t) h = absurd (let e : x ∷ t ≡ [] = h.0 refl in cc)
+no_bytes false [] h = absurd (let e : false ≡ true = h.1 refl in cc)
+no_bytes false (x ∷ t) h = refl
+
+same_tests : (b : Bool) (f : Text → Bool) → unless (not b) f ≡ tests b f
+same_tests true f = refl
+same_tests false f = refl
+
+abbrev made_by : ReplaceOp → (marks : ℕ) → (is_empty : Bool) → Text → Found → (Text → Bool) → Doing Found
+made_by op marks empty by found f =
+    each_value (λ t. spend (replace_cost (length t) marks) >> fitting (replaced (replace_of op) (unless empty f) by t)) found
+
+pub replaced_so : (result : Result Kept Stop) (op : ReplaceOp) (ms counted : Marks) (extended empty : Bool) (by : Text) (pattern : Pattern) (found : Found) (at after : State)
+    → counted ≡ ms → (bytes : Text) → bytes ≡ unquoted ms → (IsTrue empty ↔ (bytes ≡ [])) → Compiles (Ok pattern) (pattern_of extended ms)
+    → TellsFound result (made_by op (length counted) empty by found (meaning pattern) at) after → TellsFound result (replaces_by op ms extended by found at) after
+replaced_so result op ms counted extended empty by pattern found at after same bytes e i c h =
+    subst (λ o. TellsFound result o after)
+    (ap (λ xs. made_by op (length xs) empty by found (meaning pattern) at) same
+     ∙ ap (λ b. made_by op (length ms) b by found (meaning pattern) at) (no_bytes empty bytes i ∙ ap (λ t. not (has_bytes t)) e)
+     ∙ ap (λ u. each_value (λ t. spend (replace_cost (length t) (length ms)) >> fitting (replaced (replace_of op) u by t)) found at) (same_tests (has_bytes (unquoted ms)) (meaning pattern))
+     ∙ sym (goes_by pattern (pattern_of extended ms) (replace_by op ms by found) at c)) h
 
 pub not_replaced : (why : Stop) (op : ReplaceOp) (ms : Marks) (extended : Bool) (by : Text) (found : Found) (at after : State)
     → Compiles (Err why) (pattern_of extended ms) → after.left ≡ at.left → after.host.asked ≡ at.host.asked

@@ -1,6 +1,5 @@
 -- What an operator makes of texts gives no step back.
 use Rattle.std.proofs.Common.{◌≡◌, ℕ, ◌≤◌, Bool, true, false, List, [], ◌∷◌, Option, Some, None, refl, arith}
-use Rattle.std.specs.Option.{option_copied, option_map}
 use Rattle.std.specs.Prelude.{if◌then◌else◌, length}
 use Rattle.bash_params.specs.Case.{case_changed}
 use Rattle.bash_params.specs.Cost.{match_cost, replace_cost}
@@ -16,7 +15,7 @@ use Rattle.shell_state.proofs.Spent.{never_rises}
 use Rattle.shell_vars.specs.Value.{is_short}
 use Rattle.word_meaning.specs.Operators.{case_of, each_text, each_value, fitting, replace_of, strip_of}
 use Rattle.word_meaning.specs.References.{Arguments, Found, Many, One, texts}
-use Rattle.expand_operators.specs.Changes.{changes_text}
+use Rattle.expand_operators.specs.Changes.{changes_text, unless}
 use Rattle.expand_operators.specs.declared.change.Change.{Change}
 use Rattle.expand_operators.specs.declared.change.Change.TheVariants as change
 
@@ -47,8 +46,8 @@ change_falls (change.Strip op form marks) t =
     (λ u. pure_falls (stripped (strip_of op) (meaning form.now) t))
 change_falls (change.Replace r) t =
     bound_falls (spend (replace_cost (length t) r.marks))
-    (λ u. fitting (replaced (replace_of r.op) (option_map meaning (option_copied r.pattern)) r.by.now t)) (never_rises (replace_cost (length t) r.marks))
-    (λ u. fitting_falls (replaced (replace_of r.op) (option_map meaning (option_copied r.pattern)) r.by.now t))
+    (λ u. fitting (replaced (replace_of r.op) (unless r.is_empty (meaning r.pattern.now)) r.by.now t)) (never_rises (replace_cost (length t) r.marks))
+    (λ u. fitting_falls (replaced (replace_of r.op) (unless r.is_empty (meaning r.pattern.now)) r.by.now t))
 change_falls (change.Case op form) t = pure_falls (case_changed (case_of op) (meaning form.now) t)
 
 pub each_falls : (f : Text → Doing Text) → ((t : Text) → Falls (f t)) → (ts : List Text) → Falls (each_text f ts)

@@ -1,6 +1,5 @@
 -- What an operator makes of one text, by a pattern that is compiled.
-use Rattle.std.specs.Prelude.{◌≡◌, ◌≤◌, Bool, Result, Ok, Err, length}
-use Rattle.std.specs.Option.{option_copied, option_map}
+use Rattle.std.specs.Prelude.{◌≡◌, ◌≤◌, Bool, true, false, Option, Some, None, Result, Ok, Err, length}
 use Rattle.bash_params.specs.Case.{case_changed}
 use Rattle.bash_params.specs.Cost.{match_cost, replace_cost}
 use Rattle.bash_params.specs.Replacement.{replaced}
@@ -25,11 +24,16 @@ use Rattle.expand_values.specs.declared.found.Found.{Found}
 use Rattle.expand_operators.specs.declared.change.Change.{Change}
 use Rattle.expand_operators.specs.declared.change.Change.TheVariants as change
 
+-- the empty pattern is none
+abbrev pub unless : (is_empty : Bool) → (Text → Bool) → Option (Text → Bool)
+unless true f = None
+unless false f = Some f
+
 abbrev pub changes_text : Change → Text → Doing Text
 changes_text (change.Strip op form marks) t =
     spend (match_cost (length t) marks) >> pure (stripped (strip_of op) (meaning form.now) t)
 changes_text (change.Replace r) t =
-    spend (replace_cost (length t) r.marks) >> fitting (replaced (replace_of r.op) (option_map meaning (option_copied r.pattern)) r.by.now t)
+    spend (replace_cost (length t) r.marks) >> fitting (replaced (replace_of r.op) (unless r.is_empty (meaning r.pattern.now)) r.by.now t)
 changes_text (change.Case op form) t = pure (case_changed (case_of op) (meaning form.now) t)
 
 -- a replacement by a pattern that is read with extended groups or without

@@ -1,4 +1,4 @@
-ghost use Rattle.std.specs.Prelude.{◌≡◌, ◌≢◌, ◌+◌, ◌≤◌, Err, None, Some, if◌then◌else◌};
+ghost use Rattle.std.specs.Prelude.{◌≡◌, ◌≢◌, ◌+◌, ◌≤◌, Err};
 ghost use Rattle.shell_state.specs.Spending.{left};
 ghost use Rattle.shell_state.specs.State.{State};
 ghost use Rattle.word_meaning.specs.Operators.{changes_case, strips};
@@ -8,7 +8,6 @@ ghost use Rattle.expand_operators.specs.Changes.{TellsFound, replaces_by};
 use crate::change::{Change, Replacing};
 use crate::changed::compile;
 use crate::each::change_found;
-use bash_patterns::Pattern;
 use eb_bytes::{Budget, Steps};
 use eb_syntax::{CaseOp, ReplaceOp, StripOp};
 use expand_values::Found;
@@ -82,13 +81,6 @@ pub fn change_case_found<L: Ledger>(
     change_found(alloc, &Change::Case(op, &form), found, budget, steps)
 }
 
-// What a pattern is to a replacement: nothing, where it is empty.
-fn unless_empty<'a>(form: &'a Pattern, is_empty: bool) -> Option<&'a Pattern>
-    ensures { result ≡ (if is_empty then None else Some form.entry) }
-{
-    if is_empty { None } else { Some(form) }
-}
-
 /// `/`, `//`, `/#` and `/%`: what is found, with other bytes for what a pattern matches.
 ///
 /// # Errors
@@ -119,7 +111,8 @@ pub fn replace_found<L: Ledger>(
     let bytes = pattern.marks.unquoted(alloc)?;
     let replacing = Replacing {
         op,
-        pattern: unless_empty(&form, bytes.is_empty()),
+        pattern: &form,
+        is_empty: bytes.is_empty(),
         marks: pattern.marks.as_slice().len(),
         by,
     };
