@@ -1,5 +1,5 @@
 -- Operators by a pattern that is compiled.
-use Rattle.std.proofs.Common.{◌≡◌, ℕ, ◌≤◌, Bool, true, false, List, [], ◌∷◌, length, Option, Some, None, Result, Ok, Err, refl, sym, ap, subst, ◌∙◌, arith}
+use Rattle.std.proofs.Common.{◌≡◌, ℕ, ◌≤◌, Bool, true, false, [], ◌∷◌, length, Option, Some, None, Result, Ok, Err, refl, sym, ap, subst, ◌∙◌, arith}
 use Rattle.std.specs.Prelude.{◌↔◌, IsTrue, if◌then◌else◌, not}
 use Rattle.bash_cond.specs.Patterns.{Compiles}
 use Rattle.bash_params.specs.Case.{case_changed}
@@ -15,15 +15,14 @@ use Rattle.eb_bytes.specs.Text.{Text, has_bytes}
 use Rattle.eb_syntax.specs.declared.parts.CaseOp.{CaseOp}
 use Rattle.eb_syntax.specs.declared.parts.ReplaceOp.{ReplaceOp}
 use Rattle.eb_syntax.specs.declared.parts.StripOp.{StripOp}
-use Rattle.shell_state.specs.Outcome.{Doing, Outcome, Ended, Faulted, ◌>>◌, ◌>>=◌, and_then, left_of, pure, refuse}
+use Rattle.shell_state.specs.Outcome.{Doing, Faulted, ◌>>◌, ◌>>=◌, left_of, pure}
 use Rattle.shell_state.specs.Spending.{spend}
 use Rattle.shell_state.specs.State.{State}
-use Rattle.shell_state.specs.declared.fault.Fault.TheVariants as fault
 use Rattle.shell_state.specs.declared.stop.Stop.{Stop}
 use Rattle.shell_state.specs.declared.stop.Stop.TheVariants as stop
 use Rattle.shell_state.proofs.Spent.{never_rises}
 use Rattle.word_meaning.specs.Marks.{Marks, unquoted}
-use Rattle.word_meaning.specs.Operators.{case_of, changes_case, each_value, fitting, formed, replace_of, replaces, strip_of, strips}
+use Rattle.word_meaning.specs.Operators.{case_of, changes_case, each_value, fitting, formed, replace_of, strip_of, strips}
 use Rattle.word_meaning.specs.References.{Found}
 use Rattle.expand_values.specs.declared.found.Found.{Found as Kept}
 use Rattle.expand_operators.specs.Changes.{TellsFound, replaces_by, unless}
@@ -142,9 +141,9 @@ pub replaced_so : (result : Result Kept Stop) (op : ReplaceOp) (ms counted : Mar
 replaced_so result op ms counted extended empty by pattern found at after same bytes e i c h =
     subst (λ o. TellsFound result o after)
     (ap (λ xs. made_by op (length xs) empty by found (meaning pattern) at) same
-     ∙ ap (λ b. made_by op (length ms) b by found (meaning pattern) at) (no_bytes empty bytes i ∙ ap (λ t. not (has_bytes t)) e)
-     ∙ ap (λ u. each_value (λ t. spend (replace_cost (length t) (length ms)) >> fitting (replaced (replace_of op) u by t)) found at) (same_tests (has_bytes (unquoted ms)) (meaning pattern))
-     ∙ sym (goes_by pattern (pattern_of extended ms) (replace_by op ms by found) at c)) h
+    ∙ ap (λ b. made_by op (length ms) b by found (meaning pattern) at) (no_bytes empty bytes i ∙ ap (λ t. not (has_bytes t)) e)
+    ∙ ap (λ u. each_value (λ t. spend (replace_cost (length t) (length ms)) >> fitting (replaced (replace_of op) u by t)) found at) (same_tests (has_bytes (unquoted ms)) (meaning pattern))
+    ∙ sym (goes_by pattern (pattern_of extended ms) (replace_by op ms by found) at c)) h
 
 pub not_replaced : (why : Stop) (op : ReplaceOp) (ms : Marks) (extended : Bool) (by : Text) (found : Found) (at after : State)
     → Compiles (Err why) (pattern_of extended ms) → after.left ≡ at.left → after.host.asked ≡ at.host.asked

@@ -1,5 +1,5 @@
 -- What an operator makes of the texts of a list, one after another.
-use Rattle.std.proofs.Common.{◌≡◌, ◌≢◌, ℕ, ◌+◌, ◌<◌, ◌≤◌, drop, get_or, length, Bool, Option, Some, None, List, [], ◌∷◌, ◌++◌, append_assoc, Result, Ok, Err, refl, sym, ap, subst, ◌∙◌, arith}
+use Rattle.std.proofs.Common.{◌≡◌, ◌≢◌, ℕ, ◌+◌, ◌<◌, ◌≤◌, drop, get_or, length, Bool, Option, Some, None, List, [], ◌∷◌, ◌++◌, append_assoc, Err, refl, sym, ap, subst, ◌∙◌, arith}
 use Rattle.std.proofs.lemmas.List.{drop_more}
 use Rattle.eb_bytes.specs.Text.{Text}
 use Rattle.shell_state.specs.Outcome.{Doing, Outcome, Ended, Faulted, ◌<$>◌, and_then, left_of, pure, Tells}

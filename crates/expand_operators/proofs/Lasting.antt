@@ -1,5 +1,5 @@
 -- What an operator makes of texts gives no step back.
-use Rattle.std.proofs.Common.{◌≡◌, ℕ, ◌≤◌, Bool, true, false, List, [], ◌∷◌, Option, Some, None, refl, arith}
+use Rattle.std.proofs.Common.{◌≤◌, Bool, true, false, List, [], ◌∷◌, Some, None, arith}
 use Rattle.std.specs.Prelude.{if◌then◌else◌, length}
 use Rattle.bash_params.specs.Case.{case_changed}
 use Rattle.bash_params.specs.Cost.{match_cost, replace_cost}

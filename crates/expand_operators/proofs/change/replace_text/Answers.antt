@@ -14,8 +14,8 @@ returns-in-Err c =
     (replaced (replace_of c.args.change.now.op) (unless c.args.change.now.is_empty (meaning c.args.change.now.pattern.now)) c.args.change.now.by.now c.args.text.now)
     c.stop_of.result c.in-Err.error c.stop_of.ensures
     (subst
-     (λ p. Refuses c.in-Err.error (checked (replaced (replace_of c.args.change.now.op) p c.args.change.now.by.now c.args.text.now)))
-     c.unless_empty-pattern.ensures
-     (subst
-      (λ o. Refuses c.in-Err.error (checked (replaced o (option_map meaning (option_copied c.unless_empty-pattern.result)) c.args.change.now.by.now c.args.text.now)))
-      c.replace_of-op.ensures c.in-Err.ensures))
+    (λ p. Refuses c.in-Err.error (checked (replaced (replace_of c.args.change.now.op) p c.args.change.now.by.now c.args.text.now)))
+    c.unless_empty-pattern.ensures
+    (subst
+    (λ o. Refuses c.in-Err.error (checked (replaced o (option_map meaning (option_copied c.unless_empty-pattern.result)) c.args.change.now.by.now c.args.text.now)))
+    c.replace_of-op.ensures c.in-Err.ensures))
