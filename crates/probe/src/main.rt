@@ -56,6 +56,7 @@
 //! | `assign TEXT`; `redir TEXT`; `regex TEXT` | the same of an assignment, a redirection, a regular expression |
 //! | `mark TEXT` | the same of a here-document's word, then `bare` or `quoted` and the text that ends its body |
 //! | `documents TEXT` | the same of redirections, assignments and lines, then what is read of their here-documents |
+//! | `parse TEXT` | `script` where the text is one; `refused LINE` or `deep LINE` |
 //! | `share KIND TEXT` | the kind and the text of what `share` gives of a tree of this kind and text |
 //! | `truth [WORD].. [set NAME=TEXT..]` | the truth of the words of `test`, `true` or `false`, or `fault` and its text |
 //! | `unary LETTER TEXT` | the same of `[[ -LETTER TEXT ]]`, but for `-v` |

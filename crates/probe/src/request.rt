@@ -12,6 +12,7 @@ use probe_packages::{
 };
 use probe_patterns::{Search, find, operate, parameters, slice, split, substring};
 use probe_redirs::{assign, documents, mark, redir, regex};
+use probe_scripts::parse;
 use probe_trees::{ansi, ansi_expanded, fault, funcs, share};
 use probe_variables::{arith, read, vars};
 use probe_words::word;
@@ -95,6 +96,7 @@ fn answer_text(request: &[u8], text: &[u8], answer: &mut Answer) -> Result<(), F
         b"regex" => regex(text, answer),
         b"mark" => mark(text, answer),
         b"documents" => documents(text, answer),
+        b"parse" => parse(text, answer),
         b"unsigned" => unsigned(text, answer),
         b"signed" => signed(text, answer),
         b"digest" => digest(text, answer),
