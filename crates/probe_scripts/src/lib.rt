@@ -1,6 +1,10 @@
-//! Requests on how scripts are read. No part of the product.
+//! Requests on scripts, on the parameters that texts name, and on the names of builtins. No part of the product.
 #![tactic(auto)]
 
+mod builtins;
+mod parameters;
 mod scripts;
 
+pub use builtins::builtin;
+pub use parameters::is_set;
 pub use scripts::parse;
