@@ -1,0 +1,4 @@
+pub mod FunctionHeads
+mod PrefixTakes
+pub mod SharedPrefixes
+pub mod Repetition

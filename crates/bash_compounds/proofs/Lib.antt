@@ -1,0 +1,5 @@
+mod Followed
+pub mod Forms
+mod LinesAfterBlanks
+mod LoopWords
+mod Tests
