@@ -79,6 +79,8 @@ module _ {A : Type 0} (p : Rule A) (takes : TakesBytes (single <$> p)) (s : Spot
   pub many_deep : (line : ℕ) → p s ≡ Err (Deep line) → many p s ≡ Err (Deep line)
   many_deep line e = once (single <$> p) takes s ∙ rw e refl
 
+-- it has a reading, unless it nests too deep
+module _ {A : Type 0} (p : Rule A) (s : Spot) where
   pub many_reads : many p s ≡ Err No → ⊥
   unfolding Reads
   many_reads e = reads (single <$> p) (length s.rest) [] s e
