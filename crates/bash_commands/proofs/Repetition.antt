@@ -1,6 +1,6 @@
 -- A repetition, told by its first turn.
-use Rattle.std.proofs.Common.{◌≡◌, ℕ, zero, suc, ◌<◌, ◌≤◌, List, [], ◌∷◌, ◌++◌, length, Ok, Err, ap, sym, ◌∙◌, refl, arith, append_assoc}
-use Rattle.eb_grammar.specs.Peg.{Spot, Stop, No, Deep, Rule, Outcome, ◌<$>◌, ◌>>=◌, and_then, either, gather_from, many, pure, single}
+use Rattle.std.proofs.Common.{◌≡◌, ℕ, zero, suc, ◌<◌, List, [], ◌∷◌, ◌++◌, length, Ok, Err, ap, sym, ◌∙◌, refl, arith, append_assoc}
+use Rattle.eb_grammar.specs.Peg.{Spot, No, Deep, Rule, Outcome, ◌<$>◌, and_then, either, gather_from, many, pure, single}
 use Rattle.eb_grammar.specs.Laws.{TakesBytes}
 use Rattle.eb_grammar.proofs.Repetition.{enough}
 

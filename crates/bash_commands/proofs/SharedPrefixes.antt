@@ -1,14 +1,14 @@
 -- A declaration and a simple command, with the assignments and redirections that both may begin with read once.
-use Rattle.std.proofs.Common.{◌≡◌, ℕ, List, [], ◌∷◌, Option, Some, None, Ok, Err, ap, sym, ◌∙◌, refl}
+use Rattle.std.proofs.Common.{◌≡◌, ℕ, List, [], ◌∷◌, Option, Some, Ok, Err, ap, ◌∙◌, refl}
 use Rattle.eb_syntax.specs.declared.parts.DeclName.{DeclName}
 use Rattle.eb_syntax.specs.declared.tree.Command.TheVariants as c
 use Rattle.eb_syntax.specs.declared.tree.Prefix.{Prefix}
-use Rattle.eb_syntax.specs.declared.tree.Simple.{Simple, roll-Simple}
+use Rattle.eb_syntax.specs.declared.tree.Simple.{roll-Simple}
 use Rattle.eb_syntax.specs.declared.tree.Tail.{Tail}
 use Rattle.eb_grammar.specs.Commands.{argument, decl, decl_name, prefixed, simple, tail}
 use Rattle.eb_grammar.specs.Grammar.{inside}
 use Rattle.eb_grammar.specs.Laws.{TakesBytes}
-use Rattle.eb_grammar.specs.Peg.{Spot, Stop, No, Deep, Rule, Outcome, ◌<$>◌, ◌</>◌, ◌>>=◌, and_then, either, many, maybe, pure, single}
+use Rattle.eb_grammar.specs.Peg.{Spot, Stop, No, Deep, Outcome, ◌<$>◌, ◌</>◌, ◌>>=◌, and_then, either, many, maybe, pure, single}
 use Rattle.eb_grammar.specs.Rules.{Rules}
 use Rattle.eb_grammar.proofs.Repetition.{factor}
 use Rattle.bash_commands.specs.Parts.{decl_or_simple, decl_with, prefix_blanks, simple_with}
