@@ -4,7 +4,6 @@ use Rattle.eb_syntax.specs.declared.tree.Command.{Command}
 use Rattle.eb_syntax.specs.Tree.{FuncDef}
 use Rattle.eb_bytes.specs.Text.{Text}
 use Rattle.eb_grammar.specs.Commands.{compound_command, keyword_function, named_function}
-use Rattle.eb_grammar.specs.Grammar.{inside}
 use Rattle.eb_grammar.specs.HereDocuments.{lines}
 use Rattle.eb_grammar.specs.Names.{blanks, function_name, kw, some_blanks}
 use Rattle.eb_grammar.specs.Peg.{Spot, Rule, ◌>>=◌, ◌>>◌, lit, pure, stands}

@@ -3,14 +3,13 @@ use Rattle.std.proofs.Common.{◌≡◌, ℕ, List, [], ◌∷◌, length, Optio
 use Rattle.eb_syntax.specs.declared.tree.HereBody.{HereBody}
 use Rattle.eb_syntax.specs.declared.tree.Redir.TheVariants as redir
 use Rattle.eb_bytes.specs.Text.{Text}
-use Rattle.eb_grammar.specs.Classes.{is_in}
 use Rattle.eb_grammar.specs.Names as n
 use Rattle.eb_grammar.specs.HereDocuments as h
 use Rattle.eb_grammar.specs.Redirections as r
 use Rattle.eb_grammar.specs.Commands as m
 use Rattle.eb_grammar.specs.Grammar.{inside}
 use Rattle.eb_grammar.specs.Laws.{Keeps, Takes, TakesBytes}
-use Rattle.eb_grammar.specs.Peg.{HereMark, Spot, No, ◌<$>◌, byte_in, first, many, lit, run_in, sees, single, taken, word_of}
+use Rattle.eb_grammar.specs.Peg.{HereMark, No, ◌<$>◌, byte_in, first, run_in, sees, single, taken, word_of}
 use Rattle.eb_grammar.specs.Rules.{Rules}
 use Rattle.eb_grammar.proofs.Shorter.{weak, pure-k, bind-k, bind-t, late-t, map-t, map-k, or-k, or-t, maybe-k, stands-k, not-k, many-k, some-t, followed-t, with-t, word-t, byte-t, run-k, here-k, nest-t, mark-k, Shrinks, Below}
 use Rattle.eb_grammar.proofs.ShorterWords.{blank-t, blanks-k, name-t, subscript-t, continuation-t, escaped-t, single_quoted-t, ansi_quoted-t, piece-t, word-takes, group_start-t}

@@ -1,6 +1,6 @@
 -- A repetition, told by its first turn.
-use Rattle.std.proofs.Common.{◌≡◌, ℕ, zero, suc, ◌<◌, ◌≤◌, List, [], ◌∷◌, ◌++◌, length, Ok, Err, ap, sym, ◌∙◌, refl, arith, append_assoc}
-use Rattle.eb_grammar.specs.Peg.{Spot, Stop, No, Deep, Rule, Outcome, ◌<$>◌, ◌>>=◌, and_then, either, gather_from, many, pure, single}
+use Rattle.std.proofs.Common.{◌≡◌, ℕ, zero, suc, ◌<◌, List, [], ◌∷◌, ◌++◌, length, Ok, Err, ap, sym, ◌∙◌, refl, arith, append_assoc}
+use Rattle.eb_grammar.specs.Peg.{Spot, No, Deep, Rule, Outcome, ◌<$>◌, and_then, either, gather_from, many, pure, single}
 use Rattle.eb_grammar.specs.Laws.{TakesBytes}
 use Rattle.eb_grammar.proofs.Repetition.{enough}
 
@@ -79,6 +79,8 @@ module _ {A : Type 0} (p : Rule A) (takes : TakesBytes (single <$> p)) (s : Spot
   pub many_deep : (line : ℕ) → p s ≡ Err (Deep line) → many p s ≡ Err (Deep line)
   many_deep line e = once (single <$> p) takes s ∙ rw e refl
 
+-- it has a reading, unless it nests too deep
+module _ {A : Type 0} (p : Rule A) (s : Spot) where
   pub many_reads : many p s ≡ Err No → ⊥
   unfolding Reads
   many_reads e = reads (single <$> p) (length s.rest) [] s e

@@ -1,13 +1,14 @@
 -- A declaration and a simple command, with the assignments and redirections that both may begin with read once.
-use Rattle.std.proofs.Common.{◌≡◌, ℕ, List, [], ◌∷◌, Option, Some, None, Ok, Err, ap, sym, ◌∙◌, refl}
+use Rattle.std.proofs.Common.{◌≡◌, ℕ, List, [], ◌∷◌, Option, Some, Ok, Err, ap, ◌∙◌, refl}
+use Rattle.eb_syntax.specs.declared.parts.DeclName.{DeclName}
 use Rattle.eb_syntax.specs.declared.tree.Command.TheVariants as c
 use Rattle.eb_syntax.specs.declared.tree.Prefix.{Prefix}
-use Rattle.eb_syntax.specs.declared.tree.Simple.{Simple, roll-Simple}
+use Rattle.eb_syntax.specs.declared.tree.Simple.{roll-Simple}
 use Rattle.eb_syntax.specs.declared.tree.Tail.{Tail}
-use Rattle.eb_grammar.specs.Commands.{decl, prefixed, simple, tail}
+use Rattle.eb_grammar.specs.Commands.{argument, decl, decl_name, prefixed, simple, tail}
 use Rattle.eb_grammar.specs.Grammar.{inside}
 use Rattle.eb_grammar.specs.Laws.{TakesBytes}
-use Rattle.eb_grammar.specs.Peg.{Spot, No, Deep, Rule, Outcome, ◌<$>◌, ◌</>◌, ◌>>=◌, and_then, either, many, maybe, pure, single}
+use Rattle.eb_grammar.specs.Peg.{Spot, Stop, No, Deep, Outcome, ◌<$>◌, ◌</>◌, ◌>>=◌, and_then, either, many, maybe, pure, single}
 use Rattle.eb_grammar.specs.Rules.{Rules}
 use Rattle.eb_grammar.proofs.Repetition.{factor}
 use Rattle.bash_commands.specs.Parts.{decl_or_simple, decl_with, prefix_blanks, simple_with}
@@ -39,7 +40,7 @@ module _ (o : Option Rules) (takes : TakesBytes (single <$> prefix_blanks o)) wh
       → simple o s ≡ (many (prefix_blanks o) >>= simple_with o) s
   unfolding simple prefixed
   more_is x s s' e (Ok y) h = rw (many_more (prefix_blanks o) takes s x s' e, e, h) (rest_is x y.0 s y.1 (tail o y.1) refl)
-  more_is x s s' e (Err No) h = absurd (many_reads (prefix_blanks o) takes s' h)
+  more_is x s s' e (Err No) h = absurd (many_reads (prefix_blanks o) s' h)
   more_is x s s' e (Err (Deep line)) h = rw (many_more (prefix_blanks o) takes s x s' e, e, h) refl
 
   simple_at : (s : Spot) (first : Outcome Prefix) → prefix_blanks o s ≡ first → simple o s ≡ (many (prefix_blanks o) >>= simple_with o) s
@@ -64,3 +65,14 @@ module _ (n : ℕ) (s : Spot) where
       ap (λ o. either o pure (c.Simple <$> simple (inside n)) s) decl_is
       ∙ or_other (many (prefix_blanks (inside n)) >>= (λ before. c.Decl <$> decl_with (inside n) before)) (c.Simple <$> simple (inside n)) (many (prefix_blanks (inside n)) >>= (λ before. c.Simple <$> simple_with (inside n) before)) s simple_as
       ∙ factor (many (prefix_blanks (inside n))) (λ before. c.Decl <$> decl_with (inside n) before) (λ before. c.Simple <$> simple_with (inside n) before) s
+
+  -- where what both begin with nests too deep
+  pub prefixes_stop : (e : Stop) → many (prefix_blanks (inside n)) s ≡ Err e → decl_or_simple (inside n) s ≡ Err e
+  prefixes_stop e h = decl_or_simple_is ∙ rw h refl
+
+  -- where the arguments nest too deep, it is no simple command
+  pub arguments_stop : (before : List Prefix) (s1 : Spot) (called : DeclName) (s2 : Spot) (e : Stop)
+      → many (prefix_blanks (inside n)) s ≡ Ok (before, s1) → decl_name s1 ≡ Ok (called, s2) → many (argument (inside n)) s2 ≡ Err e → decl_or_simple (inside n) s ≡ Err e
+  unfolding decl_with
+  arguments_stop before s1 called s2 No a b d = absurd (many_reads (argument (inside n)) s2 d)
+  arguments_stop before s1 called s2 (Deep line) a b d = decl_or_simple_is ∙ rw (a, b, d) refl

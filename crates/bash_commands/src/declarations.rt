@@ -97,7 +97,7 @@ fn arguments<
 /// # Errors
 /// `NoParse` exactly where neither stands at the place, `TooDeep` exactly where reading it opens more nestings than may be
 /// open, `Memory` where there is no room for it. The cursor, with its here-documents, is as it was then.
-#[tactic(auto, using(crate::proofs::SharedPrefixes::decl_or_simple_is), unfolding(crate::specs::Parts::decl_with))]
+#[tactic(auto, using(crate::proofs::SharedPrefixes::decl_or_simple_is, crate::proofs::SharedPrefixes::prefixes_stop, crate::proofs::SharedPrefixes::arguments_stop), unfolding(crate::specs::Parts::decl_with))]
 pub fn decl_or_simple<
     A: Fn(&mut Cursor<'_>) -> Result<Assign, LexErr>,
     R: Fn(&mut Cursor<'_>) -> Result<Redir, LexErr>,
