@@ -95,6 +95,7 @@ loop_words inside = Some <$> in_words inside </> blanks >> stands (lit ";") >> p
 -- Or Lines
 unfoldable pub or_lines_at : ℕ → Rule Or
 or_lines_at n = followed_by (or (inside n)) (lines (inside n))
+
 -- Kw("in") (B Word)* B (";" / &[\n#])
 unfoldable pub given_words : Rules → Rule (List Word)
 given_words inside = do
