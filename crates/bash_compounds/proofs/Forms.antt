@@ -68,7 +68,7 @@ module _ (r : Rules) where
     stop ← clause_end
     r.lines
     pure (roll-Clause (record { first = x.first; others = x.others; items = items; end = stop }))) s
-  unfolding clause patterns
+  unfolding clause patterns open_pattern other_pattern
   clause_is s = then_same _ _ (λ _ t. sym (
       regrouped (stands open_pattern) _ _ _ (λ _.
       regrouped r.word _ _ _ (λ first.

@@ -110,7 +110,7 @@ unfoldable pub given_or_none : Rules → Rule (Option (List Word))
 given_or_none inside = λ s. either (given_words inside s) (λ words. inside.lines >> pure (Some words)) (pure None) s
 
 -- what may stand between the name of a loop and its Do, with the words that are given
-abbrev pub words_and_lines : ℕ → Rule (Option (List Word))
+unfoldable pub words_and_lines : ℕ → Rule (Option (List Word))
 words_and_lines n = followed_by (loop_words (rules_in (inside n))) (lines (inside n))
 
 -- ---- parts of `case`
@@ -127,11 +127,11 @@ case_head inside = do
   pure word
 
 -- "(" B
-abbrev pub open_pattern : Rule (List Blank)
+unfoldable pub open_pattern : Rule (List Blank)
 open_pattern = lit "(" >> blanks
 
 -- B "|" B Word
-abbrev pub other_pattern : Rules → Rule Word
+unfoldable pub other_pattern : Rules → Rule Word
 other_pattern inside = blanks >> lit "|" >> blanks >> inside.word
 
 -- ("(" B)? Word (B "|" B Word)* B ")"

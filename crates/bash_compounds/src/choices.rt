@@ -49,6 +49,7 @@ fn clause_end(c: &mut Cursor<'_>) -> Option<ClauseEnd>
 }
 
 // The parenthesis that may stand before the patterns of a clause, with the blanks after it, and whether it stands there.
+#[tactic(auto, unfolding(crate::specs::Forms::open_pattern))]
 fn open_pattern(c: &mut Cursor<'_>) -> bool
     ensures { Reads (stands open_pattern) c.old (Ok result) c.new }
 {
@@ -60,6 +61,7 @@ fn open_pattern(c: &mut Cursor<'_>) -> bool
 }
 
 // A bar, and a further pattern.
+#[tactic(auto, unfolding(crate::specs::Forms::other_pattern))]
 fn other_pattern<W: Fn(&mut Cursor<'_>) -> Result<Word, LexErr>>(
     c: &mut Cursor<'_>,
     word: &W,
