@@ -49,9 +49,9 @@ module _ (n : ℕ) where
 
   module _ (s b : Spot) (xs : List Blank) (skips : blanks s ≡ Ok (xs, b)) where
     -- with a semicolon in place of the words
-    pub words_none : (y : Unit {0} × Spot) → lit ";" b ≡ Ok y → words_and_lines n s ≡ (lines (inside n) >> pure None) y.1
+    pub words_none : (t : Spot) → lit ";" b ≡ Ok (tt, t) → words_and_lines n s ≡ (lines (inside n) >> pure None) t
     unfolding words_and_lines
-    words_none y h = rw (in_is s, after_blanks (inside n) s b xs skips, no_lines b y h, no_words b y h, skips, h) refl
+    words_none t h = rw (in_is s, after_blanks (inside n) s b xs skips, no_lines b (tt, t) h, no_words b (tt, t) h, skips, h) refl
 
     by_words : lit ";" b ≡ Err No → (x : Unit {0} × Spot) → lines (inside n) s ≡ Ok x → (o : Outcome (List Word)) → given_words (rules_in (inside n)) x.1 ≡ o
         → words_and_lines n s ≡ (lines (inside n) >> given_or_none (rules_in (inside n))) s
