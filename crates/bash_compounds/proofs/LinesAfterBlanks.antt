@@ -2,14 +2,13 @@
 use Rattle.std.proofs.Common.{◌≡◌, ℕ, zero, suc, ◌<◌, ◌≤◌, Bool, true, false, List, [], ◌∷◌, ◌++◌, length, Option, Ok, Err, ap, sym, ◌∙◌, refl, arith}
 use Rattle.eb_syntax.specs.declared.parts.Blank.{Blank}
 use Rattle.eb_syntax.specs.declared.tree.HereBody.{HereBody}
-use Rattle.eb_grammar.specs.Grammar.{inside}
 use Rattle.eb_grammar.specs.HereDocuments as h
 use Rattle.eb_grammar.specs.Laws.{Keeps, Takes, TakesBytes}
 use Rattle.eb_grammar.specs.Names.{blank, blanks, comment}
-use Rattle.eb_grammar.specs.Peg.{HereMark, Spot, Stop, No, Deep, Rule, Outcome, ◌<$>◌, ◌>>=◌, ◌>>◌, ◌</>◌, and_then, either, gather_from, lit, many, pure, run_in, sees, single, taken, word_of}
+use Rattle.eb_grammar.specs.Peg.{HereMark, Spot, No, Deep, Rule, Outcome, ◌<$>◌, ◌>>◌, ◌</>◌, and_then, either, gather_from, many, pure, run_in, sees, single, taken, word_of}
 use Rattle.eb_grammar.specs.Rules.{Rules}
 use Rattle.eb_grammar.proofs.Repetition.{enough}
-use Rattle.eb_grammar.proofs.Shorter.{bind-k, bind-t, end-k, gather-k, here-k, keep-k, many-k, map-k, never, not-k, or-k, or-t, pure-k, answered-k, run-k, test-k, weak, within-k, word-t}
+use Rattle.eb_grammar.proofs.Shorter.{bind-k, bind-t, end-k, gather-k, here-k, keep-k, map-k, never, not-k, or-k, or-t, pure-k, answered-k, run-k, test-k, weak, within-k, word-t}
 use Rattle.eb_grammar.proofs.ShorterWords.{blank-t, comment-t}
 
 abbrev without : {A : Type 0} → Outcome A → Outcome (Unit {0})

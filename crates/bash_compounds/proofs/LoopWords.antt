@@ -1,5 +1,5 @@
 -- The words of a loop and the lines after them, where the lines before `in` and those before `do` are read once.
-use Rattle.std.proofs.Common.{◌≡◌, ℕ, Bool, true, false, List, [], ◌∷◌, Option, Some, None, Ok, Err, ap, sym, ◌∙◌, refl, if◌then◌else◌}
+use Rattle.std.proofs.Common.{◌≡◌, ℕ, Bool, true, false, List, [], ◌∷◌, Option, None, Ok, Err, sym, ◌∙◌, refl}
 use Rattle.eb_syntax.specs.declared.parts.Blank.{Blank}
 use Rattle.eb_syntax.specs.declared.tree.Word.{Word}
 use Rattle.eb_syntax.specs.Tree.{Body}
@@ -7,7 +7,7 @@ use Rattle.eb_grammar.specs.Compounds.{Loop, do_done, in_words, loop_over}
 use Rattle.eb_grammar.specs.Grammar.{inside, rules_in}
 use Rattle.eb_grammar.specs.HereDocuments.{lines, newline}
 use Rattle.eb_grammar.specs.Names.{blank, blanks, comment, keyword, kw, name}
-use Rattle.eb_grammar.specs.Peg.{Spot, No, Deep, Rule, Outcome, ◌>>=◌, ◌>>◌, ◌</>◌, lit, pure, sees, word_of}
+use Rattle.eb_grammar.specs.Peg.{Spot, No, Deep, Outcome, ◌>>=◌, ◌>>◌, ◌</>◌, lit, pure, sees, word_of}
 use Rattle.bash_cursor.proofs.FirstBytes.{no_word}
 use Rattle.bash_compounds.specs.Forms.{given_or_none, given_words, loop_words, words_and_lines}
 use Rattle.bash_compounds.proofs.LinesAfterBlanks.{after_blanks, none_left}

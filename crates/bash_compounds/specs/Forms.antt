@@ -6,12 +6,12 @@ use Rattle.eb_syntax.specs.declared.tree.Word.{Word}
 use Rattle.eb_syntax.specs.Tree.{ArithText, Body, Or}
 use Rattle.eb_grammar.specs.declared.class.Class.TheVariants as class
 use Rattle.eb_grammar.specs.Classes.{byte}
-use Rattle.eb_grammar.specs.Compounds.{Loop, arith_command, arith_for, braces, case_command, do_done, for_loop, if_command, in_words, select_loop, subshell, test_command, until_loop, while_loop}
+use Rattle.eb_grammar.specs.Compounds.{arith_command, arith_for, braces, case_command, do_done, for_loop, if_command, in_words, select_loop, subshell, test_command, until_loop, while_loop}
 use Rattle.eb_grammar.specs.Conditions.{or}
 use Rattle.eb_grammar.specs.Grammar.{inside, rules_in}
 use Rattle.eb_grammar.specs.HereDocuments.{lines}
 use Rattle.eb_grammar.specs.Names.{blanks, kw}
-use Rattle.eb_grammar.specs.Peg.{Rule, ◌>>=◌, ◌>>◌, ◌<$>◌, ◌</>◌, pure, followed_by, maybe, stands, at, many, lit, either}
+use Rattle.eb_grammar.specs.Peg.{Rule, ◌>>=◌, ◌>>◌, ◌<$>◌, ◌</>◌, pure, followed_by, stands, at, many, lit, either}
 use Rattle.eb_grammar.specs.Rules.{Rules}
 
 -- ---- the forms
