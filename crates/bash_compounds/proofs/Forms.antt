@@ -3,11 +3,11 @@ use Rattle.std.proofs.Common.{◌≡◌, ◌∙◌, sym, refl}
 use Rattle.eb_syntax.specs.declared.tree.Clause.{roll-Clause}
 use Rattle.eb_syntax.specs.declared.tree.Compound.{Compound}
 use Rattle.eb_syntax.specs.declared.tree.Compound.TheVariants as c
-use Rattle.eb_grammar.specs.Compounds.{arith_for, braces, arith_command, case_command, clause, clause_end, compound_forms, do_done, for_loop, if_command, select_loop, subshell, test_command, until_loop, while_loop}
+use Rattle.eb_grammar.specs.Compounds.{arith_for, braces, arith_command, case_command, clause, clause_end, compound_forms, do_done, for_loop, if_command, select_loop, subshell, until_loop, while_loop}
 use Rattle.eb_grammar.specs.Names.{blanks, kw}
 use Rattle.eb_grammar.specs.Peg.{Spot, Rule, ◌>>=◌, ◌>>◌, ◌</>◌, pure, stands, not_at, many, lit}
 use Rattle.eb_grammar.specs.Rules.{Rules}
-use Rattle.bash_compounds.specs.Forms.{Head, Patterns, arith_head, case_head, choices, groups, loop_end, loops, open_pattern, other_pattern, patterns}
+use Rattle.bash_compounds.specs.Forms.{Head, arith_head, case_head, choices, groups, loop_end, loops, open_pattern, other_pattern, patterns}
 use Rattle.bash_reading.proofs.Binds.{first_five, first_three, or_other, regrouped, then_same}
 
 module _ (r : Rules) where
@@ -68,7 +68,7 @@ module _ (r : Rules) where
     stop ← clause_end
     r.lines
     pure (roll-Clause (record { first = x.first; others = x.others; items = items; end = stop }))) s
-  unfolding clause patterns
+  unfolding clause patterns open_pattern other_pattern
   clause_is s = then_same _ _ (λ _ t. sym (
       regrouped (stands open_pattern) _ _ _ (λ _.
       regrouped r.word _ _ _ (λ first.

@@ -1,16 +1,14 @@
 -- Lines that begin with blanks are the lines after these blanks.
 use Rattle.std.proofs.Common.{◌≡◌, ℕ, zero, suc, ◌<◌, ◌≤◌, Bool, true, false, List, [], ◌∷◌, ◌++◌, length, Option, Ok, Err, ap, sym, ◌∙◌, refl, arith}
-use Rattle.eb_bytes.specs.Text.{Text}
 use Rattle.eb_syntax.specs.declared.parts.Blank.{Blank}
 use Rattle.eb_syntax.specs.declared.tree.HereBody.{HereBody}
-use Rattle.eb_grammar.specs.Grammar.{inside}
 use Rattle.eb_grammar.specs.HereDocuments as h
 use Rattle.eb_grammar.specs.Laws.{Keeps, Takes, TakesBytes}
 use Rattle.eb_grammar.specs.Names.{blank, blanks, comment}
-use Rattle.eb_grammar.specs.Peg.{HereMark, Spot, Stop, No, Deep, Rule, Outcome, ◌<$>◌, ◌>>=◌, ◌>>◌, ◌</>◌, and_then, either, gather_from, lit, many, pure, run_in, sees, single, taken, word_of}
+use Rattle.eb_grammar.specs.Peg.{HereMark, Spot, No, Deep, Rule, Outcome, ◌<$>◌, ◌>>◌, ◌</>◌, and_then, either, gather_from, many, pure, run_in, sees, single, taken, word_of}
 use Rattle.eb_grammar.specs.Rules.{Rules}
 use Rattle.eb_grammar.proofs.Repetition.{enough}
-use Rattle.eb_grammar.proofs.Shorter.{bind-k, bind-t, end-k, gather-k, here-k, keep-k, many-k, map-k, never, not-k, or-k, or-t, pure-k, answered-k, run-k, test-k, weak, within-k, word-t}
+use Rattle.eb_grammar.proofs.Shorter.{bind-k, bind-t, end-k, gather-k, here-k, keep-k, map-k, never, not-k, or-k, or-t, pure-k, answered-k, run-k, test-k, weak, within-k, word-t}
 use Rattle.eb_grammar.proofs.ShorterWords.{blank-t, comment-t}
 
 abbrev without : {A : Type 0} → Outcome A → Outcome (Unit {0})
@@ -116,7 +114,7 @@ unfolding h.here_text h.body_line
 here_text-k m = bind-k (gather-k (bind-k (not-k _) (λ _. map-k _ (line-k m)))) (λ text. bind-k (last-k m) (λ _. pure-k))
 
 module _ (o : Option Rules) where
-  body_text-k : (m : HereMark) (quoted : Bool) (line : ℕ) (text : Text) → Keeps (h.body_text o m quoted line text)
+  body_text-k : (m : HereMark) (quoted : Bool) (line : ℕ) (text : List ℕ) → Keeps (h.body_text o m quoted line text)
   body_text-k m true line text = pure-k
   body_text-k m false line text = map-k _ (within-k text line _)
 
@@ -135,7 +133,7 @@ module _ (o : Option Rules) where
   part-t : Takes part
   part-t = or-t (bind-t blank-t (λ _. pure-k)) (or-t (bind-t comment-t (λ _. pure-k)) newline-t)
 
-  part_ends : (place line : ℕ) (waiting : List HereMark) (bodies : List HereBody) (rest : Text) → length rest ≡ 0
+  part_ends : (place line : ℕ) (waiting : List HereMark) (bodies : List HereBody) (rest : List ℕ) → length rest ≡ 0
       → (single <$> part) (record { rest = rest; place = place; line = line; waiting = waiting; bodies = bodies }) ≡ Err No
   unfolding blank comment h.newline word_of sees run_in taken
   part_ends place line waiting bodies [] e = refl

@@ -1,14 +1,13 @@
 -- The words of a loop and the lines after them, where the lines before `in` and those before `do` are read once.
-use Rattle.std.proofs.Common.{◌≡◌, ℕ, Bool, true, false, List, [], ◌∷◌, Option, Some, None, Ok, Err, ap, sym, ◌∙◌, refl, if◌then◌else◌}
+use Rattle.std.proofs.Common.{◌≡◌, ℕ, Bool, true, false, List, [], ◌∷◌, Option, None, Ok, Err, sym, ◌∙◌, refl}
 use Rattle.eb_syntax.specs.declared.parts.Blank.{Blank}
 use Rattle.eb_syntax.specs.declared.tree.Word.{Word}
-use Rattle.eb_bytes.specs.Text.{Text}
 use Rattle.eb_syntax.specs.Tree.{Body}
 use Rattle.eb_grammar.specs.Compounds.{Loop, do_done, in_words, loop_over}
 use Rattle.eb_grammar.specs.Grammar.{inside, rules_in}
 use Rattle.eb_grammar.specs.HereDocuments.{lines, newline}
 use Rattle.eb_grammar.specs.Names.{blank, blanks, comment, keyword, kw, name}
-use Rattle.eb_grammar.specs.Peg.{Spot, No, Deep, Rule, Outcome, ◌>>=◌, ◌>>◌, ◌</>◌, lit, pure, sees, word_of}
+use Rattle.eb_grammar.specs.Peg.{Spot, No, Deep, Outcome, ◌>>=◌, ◌>>◌, ◌</>◌, lit, pure, sees, word_of}
 use Rattle.bash_cursor.proofs.FirstBytes.{no_word}
 use Rattle.bash_compounds.specs.Forms.{given_or_none, given_words, loop_words, words_and_lines}
 use Rattle.bash_compounds.proofs.LinesAfterBlanks.{after_blanks, none_left}
@@ -50,18 +49,20 @@ module _ (n : ℕ) where
 
   module _ (s b : Spot) (xs : List Blank) (skips : blanks s ≡ Ok (xs, b)) where
     -- with a semicolon in place of the words
-    pub words_none : (y : Unit {0} × Spot) → lit ";" b ≡ Ok y → words_and_lines n s ≡ (lines (inside n) >> pure None) y.1
-    words_none y h = rw (in_is s, after_blanks (inside n) s b xs skips, no_lines b y h, no_words b y h, skips, h) refl
+    pub words_none : (t : Spot) → lit ";" b ≡ Ok (tt, t) → words_and_lines n s ≡ (lines (inside n) >> pure None) t
+    unfolding words_and_lines
+    words_none t h = rw (in_is s, after_blanks (inside n) s b xs skips, no_lines b (tt, t) h, no_words b (tt, t) h, skips, h) refl
 
     by_words : lit ";" b ≡ Err No → (x : Unit {0} × Spot) → lines (inside n) s ≡ Ok x → (o : Outcome (List Word)) → given_words (rules_in (inside n)) x.1 ≡ o
         → words_and_lines n s ≡ (lines (inside n) >> given_or_none (rules_in (inside n))) s
-    unfolding given_or_none
+    unfolding given_or_none words_and_lines
     by_words h x e (Ok y) g = rw (in_is s, e, g) refl
     by_words h x e (Err No) g = rw (in_is s, e, g, skips, h, sym (after_blanks (inside n) s b xs skips) ∙ e) refl
     by_words h x e (Err (Deep line)) g = rw (in_is s, e, g) refl
 
     by_lines : lit ";" b ≡ Err No → (o : Outcome (Unit {0})) → lines (inside n) s ≡ o
         → words_and_lines n s ≡ (lines (inside n) >> given_or_none (rules_in (inside n))) s
+    unfolding words_and_lines
     by_lines h (Ok x) e = by_words h x e (given_words (rules_in (inside n)) x.1) refl
     by_lines h (Err No) e = rw (in_is s, e, skips, h, sym (after_blanks (inside n) s b xs skips) ∙ e) refl
     by_lines h (Err (Deep line)) e = rw (in_is s, e) refl
@@ -70,7 +71,7 @@ module _ (n : ℕ) where
     pub words_some : lit ";" b ≡ Err No → words_and_lines n s ≡ (lines (inside n) >> given_or_none (rules_in (inside n))) s
     words_some h = by_lines h (lines (inside n) s) refl
 
-  abbrev loop_of : Text → Option (List Word) → Body → Loop
+  abbrev loop_of : List ℕ → Option (List Word) → Body → Loop
   loop_of called words body = record { name = called; words = words; body = body }
 
   pub loop_over_is : (s : Spot) → loop_over (rules_in (inside n)) s ≡ (do
@@ -79,5 +80,5 @@ module _ (n : ℕ) where
     words ← words_and_lines n
     body ← do_done (rules_in (inside n))
     pure (loop_of called words body)) s
-  unfolding loop_over
+  unfolding loop_over words_and_lines
   loop_over_is s = then_same _ _ (λ _ t. then_same _ _ (λ called u. sym (followed_then (loop_words (rules_in (inside n))) (lines (inside n)) (λ words. do_done (rules_in (inside n)) >>= (λ body. pure (loop_of called words body))) u)) (name t)) (blanks s)

@@ -1,5 +1,5 @@
 -- `[[`, with the lines after the condition read with it.
-use Rattle.std.proofs.Common.{◌≡◌, ℕ, sym, refl}
+use Rattle.std.proofs.Common.{◌≡◌, ℕ, sym}
 use Rattle.eb_syntax.specs.declared.tree.Compound.TheVariants as c
 use Rattle.eb_grammar.specs.Compounds.{test_command}
 use Rattle.eb_grammar.specs.Conditions.{or}

@@ -6,12 +6,12 @@ use Rattle.eb_syntax.specs.declared.tree.Word.{Word}
 use Rattle.eb_syntax.specs.Tree.{ArithText, Body, Or}
 use Rattle.eb_grammar.specs.declared.class.Class.TheVariants as class
 use Rattle.eb_grammar.specs.Classes.{byte}
-use Rattle.eb_grammar.specs.Compounds.{Loop, arith_command, arith_for, braces, case_command, do_done, for_loop, if_command, in_words, select_loop, subshell, test_command, until_loop, while_loop}
+use Rattle.eb_grammar.specs.Compounds.{arith_command, arith_for, braces, case_command, do_done, for_loop, if_command, in_words, select_loop, subshell, test_command, until_loop, while_loop}
 use Rattle.eb_grammar.specs.Conditions.{or}
 use Rattle.eb_grammar.specs.Grammar.{inside, rules_in}
 use Rattle.eb_grammar.specs.HereDocuments.{lines}
 use Rattle.eb_grammar.specs.Names.{blanks, kw}
-use Rattle.eb_grammar.specs.Peg.{Rule, ◌>>=◌, ◌>>◌, ◌<$>◌, ◌</>◌, pure, followed_by, maybe, stands, at, many, lit, either}
+use Rattle.eb_grammar.specs.Peg.{Rule, ◌>>=◌, ◌>>◌, ◌<$>◌, ◌</>◌, pure, followed_by, stands, at, many, lit, either}
 use Rattle.eb_grammar.specs.Rules.{Rules}
 
 -- ---- the forms
@@ -95,6 +95,7 @@ loop_words inside = Some <$> in_words inside </> blanks >> stands (lit ";") >> p
 -- Or Lines
 unfoldable pub or_lines_at : ℕ → Rule Or
 or_lines_at n = followed_by (or (inside n)) (lines (inside n))
+
 -- Kw("in") (B Word)* B (";" / &[\n#])
 unfoldable pub given_words : Rules → Rule (List Word)
 given_words inside = do
@@ -109,7 +110,7 @@ unfoldable pub given_or_none : Rules → Rule (Option (List Word))
 given_or_none inside = λ s. either (given_words inside s) (λ words. inside.lines >> pure (Some words)) (pure None) s
 
 -- what may stand between the name of a loop and its Do, with the words that are given
-abbrev pub words_and_lines : ℕ → Rule (Option (List Word))
+unfoldable pub words_and_lines : ℕ → Rule (Option (List Word))
 words_and_lines n = followed_by (loop_words (rules_in (inside n))) (lines (inside n))
 
 -- ---- parts of `case`
@@ -126,11 +127,11 @@ case_head inside = do
   pure word
 
 -- "(" B
-abbrev pub open_pattern : Rule (List Blank)
+unfoldable pub open_pattern : Rule (List Blank)
 open_pattern = lit "(" >> blanks
 
 -- B "|" B Word
-abbrev pub other_pattern : Rules → Rule Word
+unfoldable pub other_pattern : Rules → Rule Word
 other_pattern inside = blanks >> lit "|" >> blanks >> inside.word
 
 -- ("(" B)? Word (B "|" B Word)* B ")"

@@ -1,14 +1,14 @@
 //! `case` and `[[` (Bash Reference Manual, "Conditional Constructs").
 
-ghost use Rattle.std.specs.Prelude.{◌≡◌, ◌+◌};
-ghost use Rattle.bash_cursor.specs.Reads.{Eats, Finds, Reads, ReadsBelow, ReadsMarks, Stands, passed};
+ghost use Rattle.std.specs.Prelude.{◌≡◌, ◌+◌, Ok};
+ghost use Rattle.bash_cursor.specs.Reads.{Finds, Reads, ReadsBelow, ReadsMarks, Stands};
 ghost use Rattle.bash_compounds.specs.Forms.{case_head, choices_at, open_pattern, or_lines_at, other_pattern, patterns};
 ghost use Rattle.bash_reading.specs.At.{items_at, lines_at, word_at};
 ghost use Rattle.bash_reading.specs.Marks.{ReadsMarksBelow, mapped};
 ghost use Rattle.eb_grammar.specs.Compounds as compounds;
 ghost use Rattle.eb_grammar.specs.Grammar.{inside, rules_in};
 ghost use Rattle.eb_grammar.specs.Names.{kw};
-ghost use Rattle.eb_grammar.specs.Peg.{many};
+ghost use Rattle.eb_grammar.specs.Peg.{many, stands};
 
 use bash_cursor::{Cursor, LexErr, or_back};
 use bash_reading::{attempt, must_or_restore, or_restore, put, reserved_word};
@@ -48,9 +48,10 @@ fn clause_end(c: &mut Cursor<'_>) -> Option<ClauseEnd>
     None
 }
 
-// The parenthesis that may stand before the patterns of a clause.
+// The parenthesis that may stand before the patterns of a clause, with the blanks after it, and whether it stands there.
+#[tactic(auto, unfolding(crate::specs::Forms::open_pattern))]
 fn open_pattern(c: &mut Cursor<'_>) -> bool
-    ensures { Eats (passed open_pattern) c.old result c.new }
+    ensures { Reads (stands open_pattern) c.old (Ok result) c.new }
 {
     if !c.eat(b"(") {
         return false;
@@ -60,6 +61,7 @@ fn open_pattern(c: &mut Cursor<'_>) -> bool
 }
 
 // A bar, and a further pattern.
+#[tactic(auto, unfolding(crate::specs::Forms::other_pattern))]
 fn other_pattern<W: Fn(&mut Cursor<'_>) -> Result<Word, LexErr>>(
     c: &mut Cursor<'_>,
     word: &W,

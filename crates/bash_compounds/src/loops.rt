@@ -184,7 +184,7 @@ fn given_or_none<
 
 // The words of a loop, or the semicolon in their place, with the lines before and after. Lines are read once, whatever
 // stands after them.
-#[tactic(auto, using(crate::proofs::LoopWords::words_none, crate::proofs::LoopWords::words_some))]
+#[tactic(auto, using(crate::proofs::LoopWords::words_some))]
 fn words_and_lines<
     L: Fn(&mut Cursor<'_>) -> Result<(), LexErr>,
     W: Fn(&mut Cursor<'_>) -> Result<Word, LexErr>,
