@@ -1,1 +1,3 @@
 pub mod Owns
+pub mod Skipped
+pub mod Stops

@@ -4,7 +4,8 @@ use Rattle.eb_syntax.specs.declared.tree.Items.{Items}
 use Rattle.eb_syntax.specs.Tree.{Item}
 use Rattle.eb_grammar.specs.Commands.{items_of}
 use Rattle.eb_grammar.specs.Fill.{filled_item}
-use Rattle.eb_grammar.specs.Peg.{Rule, Stop, No, ◌>>◌, ◌</>◌, ends, lit, not_at}
+use Rattle.eb_grammar.specs.Names.{closer}
+use Rattle.eb_grammar.specs.Peg.{Rule, Stop, No, ◌>>◌, ◌</>◌, end, ends, lit, not_at}
 use Rattle.bash_cursor.specs.Seen.{Aside}
 
 -- ";" !(";" / "&")
@@ -14,6 +15,10 @@ lone_semicolon = lit ";" >> not_at (lit ";" </> lit "&")
 -- "&" !("&" / ">")
 abbrev pub lone_ampersand : Rule (Unit {0})
 lone_ampersand = lit "&" >> not_at (lit "&" </> lit ">")
+
+-- Closer / End
+abbrev pub last_stop : Rule (Unit {0})
+last_stop = closer </> end
 
 -- "|" !"|"
 abbrev pub lone_bar : Rule (Unit {0})

@@ -1,6 +1,6 @@
 //! What ends an item of a list (Bash Reference Manual, "Lists of Commands").
 
-ghost use Rattle.bash_bodies.specs.Parts.{lone_ampersand, lone_semicolon};
+ghost use Rattle.bash_bodies.specs.Parts.{last_stop, lone_ampersand, lone_semicolon};
 ghost use Rattle.bash_cursor.specs.Reads.{Eats, Finds, Stands};
 ghost use Rattle.eb_grammar.specs.Commands as commands;
 
@@ -39,8 +39,19 @@ fn ampersand(c: &mut Cursor<'_>) -> bool
     true
 }
 
+// Whether a list of commands ends at the place: before a reserved word that closes it, or with the text.
+#[tactic(auto, using(crate::proofs::Stops::closer_stands, crate::proofs::Stops::end_of_text))]
+fn sees_last_stop(c: &Cursor<'_>) -> bool
+    ensures { Stands last_stop c.now result }
+{
+    if c.sees_closer() {
+        return true;
+    }
+    c.at_end()
+}
+
 // Whether an item may end at the place with nothing taken.
-#[tactic(auto, unfolding(eb_grammar::specs::Commands::stop, eb_grammar::specs::Peg::word_of, eb_grammar::specs::Peg::end))]
+#[tactic(auto, unfolding(eb_grammar::specs::Commands::stop, eb_grammar::specs::Peg::word_of))]
 fn sees_stop(c: &Cursor<'_>) -> bool
     ensures { Stands commands.stop c.now result }
 {
@@ -49,8 +60,7 @@ fn sees_stop(c: &Cursor<'_>) -> bool
         || c.sees(b")")
         || c.sees(b";;")
         || c.sees(b";&")
-        || c.sees_closer()
-        || c.at_end()
+        || sees_last_stop(c)
 }
 
 /// What ends an item. `None` where it cannot end at the place.

@@ -37,6 +37,7 @@ fn node_of(alloc: Global, items: List<Item>) -> Result<Items, LexErr>
 ///
 /// # Errors
 /// `NoParse` exactly where one of its here-documents still waits for its body, `Memory` where there is no room for it.
+#[tactic(auto, unfolding(crate::specs::Parts::closing))]
 pub fn closed(alloc: Global, found: List<ItemDraft>, own: Marks) -> Result<Items, LexErr>
     ensures { MatchResult result (λ node. closing found own ≡ Ok node) (λ e. e ≢ LexErr.Memory → closing found own ≡ Err (stop_of e)) }
 {

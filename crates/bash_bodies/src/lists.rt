@@ -40,7 +40,7 @@ fn item<
 }
 
 // A blank, a newline, a comment or an item: the item, if it is one.
-#[tactic(auto, unfolding(eb_grammar::specs::Commands::turn))]
+#[tactic(auto, using(crate::proofs::Skipped::skipped_node, crate::proofs::Skipped::skipped_stop), unfolding(eb_grammar::specs::Commands::turn))]
 fn turn<
     L: Fn(&mut Cursor<'_>) -> Result<(), LexErr>,
     N: Fn(&mut Cursor<'_>) -> Result<(), LexErr>,

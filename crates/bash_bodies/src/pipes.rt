@@ -11,7 +11,7 @@ ghost use Rattle.eb_grammar.specs.Peg.{many};
 use crate::operators::{bar, junction, pipe_marks};
 use bash_cursor::{Cursor, LexErr};
 use bash_drafts::{AndOrDraft, Draft, JoinedDraft, PipeDraft, PipedDraft};
-use bash_reading::{or_restore, put, repeat_marks};
+use bash_reading::{or_restore, put};
 use eb_syntax::{AndOrOf, JoinedOf, PipeOf, PipedOf};
 use sqlite_items::Items as List;
 
