@@ -45,6 +45,10 @@ module _ (n : ℕ) where
   unfolding and and_lines and_step
   and_lines_is = all_once (lines (inside n)) (lines_read n) _ (and_next n) (grouped (lines (inside n)) (lit "&&") (lines (inside n)) (not (inside n))) (lines_keep n) (and_takes n) (not (inside n)) and_of
 
+  pub and_lines_found : (s t u v : Spot) (first : Not) (others : List Not) → not (inside n) s ≡ Ok (first, t) → lines (inside n) t ≡ Ok (tt, u)
+      → many (and_step n) u ≡ Ok (others, v) → and_lines n s ≡ Ok (and_of first others, v)
+  and_lines_found s t u v first others e f g = and_lines_is s ∙ rw e (rw f (rw g refl))
+
   or_all : (s : Spot) → or_lines n s ≡ (and (inside n) >>= (λ first. lines (inside n) >> (many (or_step n) >>= (λ others. pure (or_of first others))))) s
   unfolding or or_lines or_step
   or_all = all_once (lines (inside n)) (lines_read n) _ (or_next n) (grouped (lines (inside n)) (lit "||") (lines (inside n)) (and (inside n))) (lines_keep n) (or_takes n) (and (inside n)) or_of

@@ -1,6 +1,5 @@
 -- Lines always have a reading, unless they nest too deep; a joined condition takes a byte.
 use Rattle.std.proofs.Common.{◌≡◌, ℕ, zero, suc, List, [], ◌∷◌, ◌++◌, length, Ok, Err, sym, ◌∙◌, refl, arith}
-use Rattle.eb_bytes.specs.Text.{Text}
 use Rattle.eb_syntax.specs.declared.tree.HereBody.{HereBody}
 use Rattle.eb_grammar.specs.Conditions.{and, not}
 use Rattle.eb_grammar.specs.Grammar.{inside, rules_in}
@@ -74,12 +73,12 @@ module _ (n : ℕ) where
   ands_take = bind-t nots_take (λ first. bind-k (many-k (bind-k (bind-k (bind-k lines_keep (λ _. weak (word-t _ _))) (λ _. lines_keep)) (λ _. weak nots_take))) (λ others. pure-k))
 
   module _ (place line : ℕ) (waiting : List HereMark) (bodies : List HereBody) where
-    and_ends : (rest : Text) → length rest ≡ 0 → (single <$> and_step n) (record { rest = rest; place = place; line = line; waiting = waiting; bodies = bodies }) ≡ Err No
+    and_ends : (rest : List ℕ) → length rest ≡ 0 → (single <$> and_step n) (record { rest = rest; place = place; line = line; waiting = waiting; bodies = bodies }) ≡ Err No
     unfolding and_step word_of sees
     and_ends [] e = refl
     and_ends (b ∷ rest) e = absurd (omega (arith, e))
 
-    or_ends : (rest : Text) → length rest ≡ 0 → (single <$> or_step n) (record { rest = rest; place = place; line = line; waiting = waiting; bodies = bodies }) ≡ Err No
+    or_ends : (rest : List ℕ) → length rest ≡ 0 → (single <$> or_step n) (record { rest = rest; place = place; line = line; waiting = waiting; bodies = bodies }) ≡ Err No
     unfolding or_step word_of sees
     or_ends [] e = refl
     or_ends (b ∷ rest) e = absurd (omega (arith, e))

@@ -168,7 +168,7 @@ fn and_steps<
 }
 
 // Conditions joined by `&&`, with the lines after them.
-#[tactic(auto, using(crate::proofs::Joined::and_lines_is))]
+#[tactic(auto, using(crate::proofs::Joined::and_lines_is, crate::proofs::Joined::and_lines_found))]
 fn and_lines<
     L: Fn(&mut Cursor<'_>) -> Result<(), LexErr>,
     N: Fn(&mut Cursor<'_>) -> Result<Not, LexErr>,

@@ -3,8 +3,7 @@
 ghost use Rattle.std.specs.Prelude.{◌+◌};
 ghost use Rattle.bash_conditions.specs.Parts.{or_lines};
 ghost use Rattle.bash_cursor.specs.Reads.{Reads, ReadsBelow, ReadsMarks};
-ghost use Rattle.bash_lexer.specs.At.{piece_at, quoted_at, subscript_at};
-ghost use Rattle.bash_reading.specs.At.{assign_at, body_at, items_at, lines_at, newline_at, redir_at, regex_at, word_at};
+ghost use Rattle.bash_reading.specs.At.{assign_at, body_at, items_at, lines_at, newline_at, piece_at, quoted_at, redir_at, regex_at, subscript_at, word_at};
 
 use bash_cursor::{Cursor, LexErr};
 use eb_syntax::{Assign, Body, Items, Or, Piece, QPiece, Redir, Regex, Sub, Word};
