@@ -5,6 +5,7 @@ use probe_builtins::{echo, printf, reads};
 use probe_calls::calls;
 use probe_conditions::{binary, truth, unary};
 use probe_declare::declares;
+use probe_names::builtin;
 use probe_options::{set, shopt};
 use probe_packages::{
     cut, digest, eapi, entry, form, key, make, names, paths, phase, phases, read_digest, rs,
@@ -12,7 +13,6 @@ use probe_packages::{
 };
 use probe_patterns::{Search, find, operate, parameters, slice, split, substring};
 use probe_redirs::{assign, documents, mark, redir, regex};
-use probe_scripts::{builtin, is_set, parse};
 use probe_trees::{ansi, ansi_expanded, fault, funcs, share};
 use probe_variables::{arith, read, vars};
 use probe_words::word;
@@ -58,7 +58,6 @@ fn answer_fields(request: &[u8], fields: &[&[u8]], answer: &mut Answer) -> Resul
         b"fault" => fault(fields, answer),
         b"arith" => arith(fields, answer),
         b"truth" => truth(fields, answer),
-        b"is_set" => is_set(fields, answer),
         b"unary" => unary(fields, answer),
         b"binary" => binary(fields, answer),
         b"echo" => echo(fields, answer),
@@ -97,7 +96,6 @@ fn answer_text(request: &[u8], text: &[u8], answer: &mut Answer) -> Result<(), F
         b"regex" => regex(text, answer),
         b"mark" => mark(text, answer),
         b"documents" => documents(text, answer),
-        b"parse" => parse(text, answer),
         b"builtin" => builtin(text, answer),
         b"unsigned" => unsigned(text, answer),
         b"signed" => signed(text, answer),
