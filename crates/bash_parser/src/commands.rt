@@ -33,6 +33,17 @@ fn group<
     groups_of(c, body, &arith)
 }
 
+// `if`, whose nesting is open.
+fn conditional<
+    I: Fn(&mut Cursor<'_>) -> Result<Items, LexErr>,
+    O: Fn(&mut Cursor<'_>) -> Result<Body, LexErr>,
+>(c: &mut Cursor<'_>, _items: &I, body: &O) -> Result<Compound, LexErr>
+    requires { ReadsBelow body_at (c.old.room + 1) (O.pre body.now) (O.post body.now) }
+    ensures { Reads (if_at c.old.room) c.old result c.new }
+{
+    if_of(c, body)
+}
+
 // A loop or `select`, whose nesting is open.
 #[tactic(auto, using(bash_cursor::proofs::Below::narrower))]
 fn looped<
@@ -107,7 +118,7 @@ fn compound<
     let if_form = |c: &mut Cursor<'_>| -> Result<Compound, LexErr>
         requires { ReadsBelow body_at (c.old.room + 1) (O.pre body.now) (O.post body.now) }
         ensures { Reads (if_at c.old.room) c.old result c.new }
-    { if_of(c, body) };
+    { conditional(c, items, body) };
     let in_loop = |c: &mut Cursor<'_>| -> Result<Compound, LexErr>
         requires lists { ReadsBelow items_at (c.old.room + 1) (I.pre items.now) (I.post items.now) }
         requires bodies { ReadsBelow body_at (c.old.room + 1) (O.pre body.now) (O.post body.now) }

@@ -6,7 +6,9 @@ mod commands;
 mod error;
 mod knot;
 mod parts;
+mod references;
 mod script;
 
 pub use error::ParseErr;
+pub use references::whole_ref;
 pub use script::parse_script;

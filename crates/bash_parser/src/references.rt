@@ -39,7 +39,7 @@ fn named_reference(c: &mut Cursor<'_>) -> Result<Ref, LexErr>
 }
 
 // The parameter that is named: a name with its subscript, digits, or a special parameter.
-#[tactic(auto, using(crate::proofs::References::reference_is))]
+#[tactic(auto, using(crate::proofs::RefForms::reference_is))]
 fn reference(c: &mut Cursor<'_>) -> Result<Ref, LexErr>
     ensures { Reads (params.ref (rules_in (inside c.old.room))) c.old result c.new }
 {
@@ -61,7 +61,7 @@ fn reference(c: &mut Cursor<'_>) -> Result<Ref, LexErr>
 ///
 /// # Errors
 /// `Memory`.
-#[tactic(auto, using(crate::proofs::References::whole_is, crate::proofs::References::whole_left, crate::proofs::References::whole_no))]
+#[tactic(auto, using(crate::proofs::RefForms::whole_is, crate::proofs::RefForms::whole_left, crate::proofs::RefForms::whole_no))]
 pub fn whole_ref(alloc: Global, text: &[u8]) -> Result<Option<Ref>, Memory>
     requires { length text.now < 4294967295 }
     ensures { IfOk result (λ found. found ≡ whole_ref_of text.now) }
