@@ -1,4 +1,6 @@
+pub mod Leaves
 pub mod Levels
 pub mod Opened
 pub mod OpenedMore
+pub mod Params
 pub mod Turns

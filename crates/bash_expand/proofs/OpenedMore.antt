@@ -25,7 +25,7 @@ use Rattle.word_meaning.specs.declared.mode.Tildes.TheVariants as tildes
 use Rattle.expand_values.specs.Seen.{element_at, found_of, place_of}
 use Rattle.expand_values.specs.declared.found.Found.{Found as Kept}
 use Rattle.expand_values.specs.declared.found.Place.{Place}
-use Rattle.bash_expand.specs.Acts.{Acts, Opens}
+use Rattle.bash_expand.specs.Acts.{Acts, Opens, is_written}
 use Rattle.bash_expand.specs.Rest.{Sub, param_found, pointed_found, referred_name}
 use Rattle.bash_expand.specs.declared.level.Act.{Act}
 use Rattle.bash_expand.specs.declared.level.Parts.TheVariants as of
@@ -71,3 +71,23 @@ module _ (result : Result Act Stop) (n : ℕ) (at : State) where
       → Acts result f n at
   index_opens m quoted p ps h f e =
       opens result (of.Subscript ps) mode.Text tildes.Nowhere (use_of.Index m quoted p) n f at (begins_subscript ps) (λ sub. e sub ∙ index_goes ps _ sub) h
+
+  pub case_opens : (to : Target) (op : CaseOp) (ws : List PW) (found : Kept)
+      → Opens result (of.Operand ws) mode.Text tildes.Nowhere (use_of.Case to op (is_written ws) found) n
+      → Acts result (λ sub. op_at sub (inside sub n) to.mode to.quoted to.name (found_of found) (Op-F.Op::Case op ws) at) n at
+  case_opens to op [] found h = opens result (of.Operand []) mode.Text tildes.Nowhere (use_of.Case to op false found) n _ at (begins_operand []) (λ sub. refl) h
+  case_opens to op (w ∷ ws) found h = opens result (of.Operand (w ∷ ws)) mode.Text tildes.Nowhere (use_of.Case to op true found) n _ at (begins_operand (w ∷ ws)) (λ sub. refl) h
+
+  pub slice_opens : (to : Target) (ss : List SW) (len : Option (List SW)) (found : Kept)
+      → Opens result (of.Slice ss) mode.Text tildes.Nowhere (use_of.Offset to len found) n
+      → Acts result (λ sub. op_at sub (inside sub n) to.mode to.quoted to.name (found_of found) (Op-F.Slice ss len) at) n at
+  slice_opens to ss len found h =
+      opens result (of.Slice ss) mode.Text tildes.Nowhere (use_of.Offset to len found) n _ at (begins_slice ss)
+      (λ sub. assoc (opened (inside sub n) (λ p. p.slice ss) at) number_of _) h
+
+  pub pointed_opens : (m : Mode) (quoted : Bool) (p : Param) (name : Text) (ps : List SubPart)
+      → Opens result (of.Subscript ps) mode.Text tildes.Nowhere (use_of.Pointed m quoted p name) n → (f : Sub → Outcome Given)
+      → ((sub : Sub) → f sub ≡ (index sub (inside sub n) ps >>= (λ i. element_at name i >>= pointed_found sub (inside sub n) m quoted (out-Param p))) at)
+      → Acts result f n at
+  pointed_opens m quoted p name ps h f e =
+      opens result (of.Subscript ps) mode.Text tildes.Nowhere (use_of.Pointed m quoted p name) n f at (begins_subscript ps) (λ sub. e sub ∙ index_goes ps _ sub) h

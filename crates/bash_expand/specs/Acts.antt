@@ -1,22 +1,34 @@
 -- What one part of a word comes to.
-use Rattle.std.specs.Prelude.{◌≡◌, ℕ, ◌<◌, ◌≤◌, false, [], Result, Ok, Err}
+use Rattle.std.specs.Prelude.{◌≡◌, ℕ, ℤ, ◌<◌, ◌≤◌, Bool, true, false, List, [], ◌∷◌, Result, Ok, Err}
 use Rattle.eb_bytes.specs.Text.{Text}
-use Rattle.shell_state.specs.Outcome.{Outcome, Faulted, left_of}
+use Rattle.eb_syntax.specs.Tree.{Ref}
+use Rattle.eb_syntax.specs.declared.tree.AP.TheOpen.{Param-F}
+use Rattle.eb_syntax.specs.declared.tree.PW.{PW}
+use Rattle.eb_syntax.specs.declared.tree.SubPart.{SubPart}
+use Rattle.shell_state.specs.Outcome.{Doing, Outcome, Ended, Faulted, ◌>>=◌, left_of}
 use Rattle.shell_state.specs.State.{State}
 use Rattle.shell_state.specs.declared.fault.Fault.TheVariants as fault
 use Rattle.shell_state.specs.declared.stop.Stop.{Stop}
 use Rattle.shell_state.specs.declared.stop.Stop.TheVariants as stop
 use Rattle.word_meaning.specs.Laws.{SubstitutionsLast}
+use Rattle.word_meaning.specs.Layers.{ParamLayer}
 use Rattle.word_meaning.specs.Marks as meaning
+use Rattle.word_meaning.specs.Operators as meaning_of
+use Rattle.word_meaning.specs.References.{name_of, referred}
 use Rattle.word_meaning.specs.Tilde.{may_begin}
 use Rattle.word_meaning.specs.declared.mode.Mode.{Mode}
 use Rattle.word_meaning.specs.declared.mode.Tildes.{Tildes}
 use Rattle.bash_expand.specs.Rest.{Sub, acted}
+use Rattle.expand_values.specs.Seen.{element_at, found_of}
+use Rattle.bash_expand.specs.declared.dollars.Referred.{Referred}
+use Rattle.bash_expand.specs.declared.dollars.Referred.TheVariants as referred_as
 use Rattle.bash_expand.specs.declared.level.Act.{Act}
 use Rattle.bash_expand.specs.declared.level.Act.TheVariants as act
 use Rattle.bash_expand.specs.declared.level.Level.{Level}
 use Rattle.bash_expand.specs.declared.level.Parts.{Parts}
 use Rattle.bash_expand.specs.declared.level.Use.{Use}
+use Rattle.bash_expand.specs.declared.operators.Deed.{Deed}
+use Rattle.bash_expand.specs.declared.operators.Deed.TheVariants as deed
 use Rattle.bash_expand.specs.declared.scene.Scene.{Scene}
 
 -- a state has what a part is looked at by
@@ -65,3 +77,32 @@ abbrev pub Refuses : Stop → Text → Type 0
 Refuses (stop.Fault why) form = why ≡ fault.Unsupported form
 Refuses stop.Failed form = ⊥
 Refuses stop.Memory form = Unit {0}
+
+-- ---- parameters
+
+-- a reference is what it finds, or its subscript comes first; nothing is spent or changed
+abbrev pub Refers : Result Referred Stop → Ref → State → Type 0
+Refers (Ok (referred_as.Found f)) r at = (index : List SubPart → Doing ℤ) → referred index r at ≡ Ended (found_of f) at
+Refers (Ok (referred_as.Subscript parts)) r at = (index : List SubPart → Doing ℤ) → referred index r at ≡ (index parts >>= element_at (name_of r)) at
+Refers (Err (stop.Fault why)) r at = (index : List SubPart → Doing ℤ) → referred index r at ≡ Faulted why at.left at.host.asked
+Refers (Err stop.Failed) r at = ⊥
+Refers (Err stop.Memory) r at = Unit {0}
+
+-- a parameter looks for a reference, and goes on with what that finds
+abbrev pub IsReferred : Mode → (quoted : Bool) → ParamLayer → Ref → Type 0
+IsReferred m quoted (Param-F.Length s) r = s ≡ r
+IsReferred m quoted (Param-F.Names s b) r = ⊥
+IsReferred m quoted (Param-F.Indirect s op) r = s ≡ r
+IsReferred m quoted (Param-F.Param::Value s op) r = s ≡ r
+
+-- what an operator of values does
+abbrev pub deed_of : Deed → meaning_of.Deed
+deed_of deed.Default = meaning_of.Default
+deed_of deed.Assign = meaning_of.Assign
+deed_of deed.Fail = meaning_of.Fail
+deed_of deed.Other = meaning_of.Other
+
+-- whether a pattern is written
+abbrev pub is_written : List PW → Bool
+is_written [] = false
+is_written (w ∷ ws) = true

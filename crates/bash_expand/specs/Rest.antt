@@ -4,6 +4,8 @@ use Rattle.std.specs.List.{flat_map, zip}
 use Rattle.bash_arith.specs.Numbers.{number_text}
 use Rattle.bash_patterns.specs.Reading.{pattern_of}
 use Rattle.eb_bytes.specs.Text.{Text}
+use Rattle.eb_grammar.specs.Grammar.{whole_ref}
+use Rattle.eb_syntax.specs.Tree.{Ref}
 use Rattle.eb_syntax.specs.declared.parts.CaseOp.{CaseOp}
 use Rattle.eb_syntax.specs.declared.parts.ReplaceOp.{ReplaceOp}
 use Rattle.eb_syntax.specs.declared.tree.AP.TheOpen.{Param-F}
@@ -29,7 +31,7 @@ use Rattle.word_meaning.specs.Pathnames.{pathname}
 use Rattle.word_meaning.specs.References.{Found, name_of}
 use Rattle.word_meaning.specs.Tilde.{Sign, home_or, homes, operand_sign, sign}
 use Rattle.word_meaning.specs.Words as words
-use Rattle.word_meaning.specs.Words.{Parts, arith_at, asks_indices, assigned_value, each_from, enclosed, group_at, indirect, inside, number_of, operand_at, operated, piece_at, quoted_at, replacement, slice_at, slice_length, subscript_at, substituted}
+use Rattle.word_meaning.specs.Words.{Parts, arith_at, asks_indices, assigned_value, each_from, enclosed, group_at, indirect, inside, number_of, operand_at, operated, piece_at, pointed, quoted_at, replacement, slice_at, slice_length, subscript_at, substituted}
 use Rattle.word_meaning.specs.declared.mode.Mode.{Mode}
 use Rattle.word_meaning.specs.declared.mode.Tildes.{Tildes}
 use Rattle.expand_marks.specs.Seen.{given_of}
@@ -87,6 +89,13 @@ pointed_found sub i m quoted (Param-F.Names r b) found = pure (given [])
 pointed_found sub i m quoted (Param-F.Indirect r op) found = operated sub i m quoted (name_of r) op found
 pointed_found sub i m quoted (Param-F.Param::Value r op) found = operated sub i m quoted (name_of r) op found
 
+-- a parameter that points to another one, once its value is read as a reference
+abbrev pub pointed_at : Sub → Option Parts → Mode → (quoted : Bool) → ParamLayer → Option Ref → Doing Given
+pointed_at sub i m quoted (Param-F.Length r) to = pure (given [])
+pointed_at sub i m quoted (Param-F.Names r b) to = pure (given [])
+pointed_at sub i m quoted (Param-F.Indirect r op) to = pointed sub i m quoted (name_of r) op to
+pointed_at sub i m quoted (Param-F.Param::Value r op) to = pointed sub i m quoted (name_of r) op to
+
 -- the name of the variable that a parameter refers to
 abbrev pub referred_name : ParamLayer → Text
 referred_name (Param-F.Length r) = name_of r
@@ -142,6 +151,7 @@ abbrev pub acted : Sub → ℕ → Act → Doing Given
 acted sub n (act.Give g) = pure (given_of g)
 acted sub n (act.Open l) = from_here sub n l (given_in l)
 acted sub n (act.Run quoted items) = substituted sub quoted items
+acted sub n (act.Point m quoted p t) = pointed_at sub (inside sub n) m quoted (out-Param p) (whole_ref t)
 
 -- ---- all that is to be expanded
 

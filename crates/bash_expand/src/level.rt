@@ -106,4 +106,6 @@ pub enum Act {
     Open(Level),
     /// Its commands have to be run; and whether it stands in double quotes.
     Run(bool, Items),
+    /// This text is the reference to which the parameter `${!..}` points.
+    Point(Mode, bool, Shared<Param>, Bytes),
 }

@@ -2,8 +2,12 @@
 //! whoever runs it (Bash Reference Manual, "Shell Expansions").
 #![tactic(auto)]
 
+mod dollars;
 mod expander;
+mod leaves;
 mod level;
+mod operators;
+mod references;
 mod scene;
 
 pub use expander::{Expanded, Expander, Job, Turn, Wanted};
