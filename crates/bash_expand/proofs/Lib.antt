@@ -1,5 +1,7 @@
+pub mod Falls
 pub mod Leaves
 pub mod Levels
+pub mod Numbers
 pub mod Opened
 pub mod OpenedMore
 pub mod Params

@@ -28,10 +28,10 @@ use Rattle.word_meaning.specs.Lists.{all_of, row_of, split_words}
 use Rattle.word_meaning.specs.Marks.{Given, Marks, as_value, bytes_of, emitted, followed, given, in_quotes}
 use Rattle.word_meaning.specs.Operators.{case_pattern, changes_case, compiled, formed, length_of, replaces, shown, slices, strips}
 use Rattle.word_meaning.specs.Pathnames.{pathname}
-use Rattle.word_meaning.specs.References.{Found, name_of}
+use Rattle.word_meaning.specs.References.{Found, name_of, referred}
 use Rattle.word_meaning.specs.Tilde.{Sign, home_or, homes, operand_sign, sign}
 use Rattle.word_meaning.specs.Words as words
-use Rattle.word_meaning.specs.Words.{Parts, arith_at, asks_indices, assigned_value, each_from, enclosed, group_at, indirect, inside, number_of, operand_at, operated, piece_at, pointed, quoted_at, replacement, slice_at, slice_length, subscript_at, substituted}
+use Rattle.word_meaning.specs.Words.{Parts, arith_at, asks_indices, assigned_value, each_from, enclosed, group_at, index, indirect, inside, number_of, operand_at, operated, piece_at, quoted_at, replacement, slice_at, slice_length, subscript_at, substituted}
 use Rattle.word_meaning.specs.declared.mode.Mode.{Mode}
 use Rattle.word_meaning.specs.declared.mode.Tildes.{Tildes}
 use Rattle.expand_marks.specs.Seen.{given_of}
@@ -82,26 +82,24 @@ param_found sub i m quoted (Param-F.Names r b) found = refuse (fault.Unsupported
 param_found sub i m quoted (Param-F.Indirect r op) found = indirect sub i m quoted (name_of r) op (asks_indices r op) found
 param_found sub i m quoted (Param-F.Param::Value r op) found = operated sub i m quoted (name_of r) op found
 
--- a parameter that points to another one, once that is found
-abbrev pub pointed_found : Sub → Option Parts → Mode → (quoted : Bool) → ParamLayer → Found → Doing Given
-pointed_found sub i m quoted (Param-F.Length r) found = pure (given [])
-pointed_found sub i m quoted (Param-F.Names r b) found = pure (given [])
-pointed_found sub i m quoted (Param-F.Indirect r op) found = operated sub i m quoted (name_of r) op found
-pointed_found sub i m quoted (Param-F.Param::Value r op) found = operated sub i m quoted (name_of r) op found
-
--- a parameter that points to another one, once its value is read as a reference
-abbrev pub pointed_at : Sub → Option Parts → Mode → (quoted : Bool) → ParamLayer → Option Ref → Doing Given
-pointed_at sub i m quoted (Param-F.Length r) to = pure (given [])
-pointed_at sub i m quoted (Param-F.Names r b) to = pure (given [])
-pointed_at sub i m quoted (Param-F.Indirect r op) to = pointed sub i m quoted (name_of r) op to
-pointed_at sub i m quoted (Param-F.Param::Value r op) to = pointed sub i m quoted (name_of r) op to
-
 -- the name of the variable that a parameter refers to
 abbrev pub referred_name : ParamLayer → Text
 referred_name (Param-F.Length r) = name_of r
 referred_name (Param-F.Names r b) = name_of r
 referred_name (Param-F.Indirect r op) = name_of r
 referred_name (Param-F.Param::Value r op) = name_of r
+
+-- a parameter that points to another one, once that is found; only `${!..}` does
+abbrev pub pointed_found : Sub → Option Parts → Mode → (quoted : Bool) → ParamLayer → Found → Doing Given
+pointed_found sub i m quoted (Param-F.Length r) found = pure (given [])
+pointed_found sub i m quoted (Param-F.Names r b) found = pure (given [])
+pointed_found sub i m quoted (Param-F.Indirect r op) found = operated sub i m quoted (name_of r) op found
+pointed_found sub i m quoted (Param-F.Param::Value r op) found = pure (given [])
+
+-- the same, once its value is read as a reference
+abbrev pub pointed_at : Sub → Option Parts → Mode → (quoted : Bool) → ParamLayer → Option Ref → Doing Given
+pointed_at sub i m quoted p None = refuse (fault.BadSubstitution (referred_name p))
+pointed_at sub i m quoted p (Some r) = referred (index sub i) r >>= pointed_found sub i m quoted p
 
 abbrev pub show : Target → Found → Doing Given
 show to found = shown to.mode to.quoted found

@@ -36,14 +36,24 @@ pub(crate) enum Referred {
 }
 
 /// What is found, as its text or its elements.
-pub(crate) fn shown_act(scene: &Scene<'_>, mode: Mode, quoted: bool, found: &Found) -> Result<Act, Stop>
+pub(crate) fn shown_act(
+    scene: &Scene<'_>,
+    mode: Mode,
+    quoted: bool,
+    found: &Found,
+) -> Result<Act, Stop>
     ensures { (at : State) → Sees scene.now at → Acts result (λ sub. shown mode quoted (found_of found.now) at) scene.now.room at }
 {
     Ok(Act::Give(show(scene.alloc, scene.vars, mode, quoted, found)?))
 }
 
 // What was looked for, as its text or its elements.
-fn shown_if_found(scene: &Scene<'_>, mode: Mode, quoted: bool, found: Result<Found, Stop>) -> Result<Act, Stop>
+fn shown_if_found(
+    scene: &Scene<'_>,
+    mode: Mode,
+    quoted: bool,
+    found: Result<Found, Stop>,
+) -> Result<Act, Stop>
     ensures { (at : State) (o : Sub → Outcome refs.Found) → Sees scene.now at → ((sub : Sub) → Finds found (o sub) at) →
         Acts result (λ sub. and_then (o sub) (shown mode quoted)) scene.now.room at }
 {
@@ -55,21 +65,51 @@ fn shown_if_found(scene: &Scene<'_>, mode: Mode, quoted: bool, found: Result<Fou
 
 /// What a dollar begins.
 #[tactic(auto, using(crate::proofs::OpenedMore::arithmetic_opens))]
-pub(crate) fn dollar(scene: &Scene<'_>, mode: Mode, quoted: bool, dollar: &Dollar) -> Result<Act, Stop>
+pub(crate) fn dollar(
+    scene: &Scene<'_>,
+    mode: Mode,
+    quoted: bool,
+    dollar: &Dollar,
+) -> Result<Act, Stop>
     ensures { (at : State) → Sees scene.now at → Acts result (λ sub. dollar_at sub (inside sub scene.now.room) mode quoted (out-Dollar dollar.now) at) scene.now.room at }
 {
     match dollar {
-        Dollar::Arith(parts) => open(scene, Parts::Arith(parts.share()?), Mode::Text, Tildes::Nowhere, Use::Arithmetic(quoted)),
+        Dollar::Arith(parts) => open(
+            scene,
+            Parts::Arith(parts.share()?),
+            Mode::Text,
+            Tildes::Nowhere,
+            Use::Arithmetic(quoted),
+        ),
         Dollar::Command(items) => Ok(Act::Run(quoted, items.share()?)),
         Dollar::Param(found) => param(scene, mode, quoted, found),
-        Dollar::Name(name) => shown_if_found(scene, mode, quoted, variable(scene.alloc, scene.vars, name.get().as_slice())),
-        Dollar::Digit(digit) => shown_if_found(scene, mode, quoted, positional(scene.alloc, scene.args, &[*digit])),
-        Dollar::Special(byte) => shown_if_found(scene, mode, quoted, special(scene.alloc, scene.args, scene.status, *byte)),
+        Dollar::Name(name) => shown_if_found(
+            scene,
+            mode,
+            quoted,
+            variable(scene.alloc, scene.vars, name.get().as_slice()),
+        ),
+        Dollar::Digit(digit) => shown_if_found(
+            scene,
+            mode,
+            quoted,
+            positional(scene.alloc, scene.args, &[*digit]),
+        ),
+        Dollar::Special(byte) => shown_if_found(
+            scene,
+            mode,
+            quoted,
+            special(scene.alloc, scene.args, scene.status, *byte),
+        ),
     }
 }
 
 // What a name with a subscript is.
-fn subscripted(scene: &Scene<'_>, name: &[u8], parts: &Shared<List<SubPart>>) -> Result<Referred, Stop>
+fn subscripted(
+    scene: &Scene<'_>,
+    name: &[u8],
+    parts: &Shared<List<SubPart>>,
+) -> Result<Referred, Stop>
     ensures { (at : State) → Sees scene.now at → Refers result (ref.Name name.now (Some parts.now)) at }
 {
     match star_of(parts.get().as_slice()) {
@@ -84,15 +124,34 @@ pub(crate) fn refer(scene: &Scene<'_>, reference: &Ref) -> Result<Referred, Stop
 {
     match reference {
         Ref::Name(name, Some(parts)) => subscripted(scene, name.as_slice(), parts),
-        Ref::Name(name, None) => Ok(Referred::Found(variable(scene.alloc, scene.vars, name.as_slice())?)),
-        Ref::Digits(digits) => Ok(Referred::Found(positional(scene.alloc, scene.args, digits.as_slice())?)),
-        Ref::Special(byte) => Ok(Referred::Found(special(scene.alloc, scene.args, scene.status, *byte)?)),
+        Ref::Name(name, None) => Ok(Referred::Found(variable(
+            scene.alloc,
+            scene.vars,
+            name.as_slice(),
+        )?)),
+        Ref::Digits(digits) => Ok(Referred::Found(positional(
+            scene.alloc,
+            scene.args,
+            digits.as_slice(),
+        )?)),
+        Ref::Special(byte) => Ok(Referred::Found(special(
+            scene.alloc,
+            scene.args,
+            scene.status,
+            *byte,
+        )?)),
     }
 }
 
 // A parameter by its reference.
 #[tactic(auto, using(crate::proofs::Params::found_goes, crate::proofs::Params::subscript_goes, crate::proofs::Params::not_found))]
-fn param_by(scene: &Scene<'_>, mode: Mode, quoted: bool, param: &Shared<Param>, reference: &Ref) -> Result<Act, Stop>
+fn param_by(
+    scene: &Scene<'_>,
+    mode: Mode,
+    quoted: bool,
+    param: &Shared<Param>,
+    reference: &Ref,
+) -> Result<Act, Stop>
     ensures { (at : State) → Sees scene.now at → IsReferred mode quoted (out-Param param.now) reference.now →
         Acts result (λ sub. param_at sub (inside sub scene.now.room) mode quoted (out-Param param.now) at) scene.now.room at }
 {
@@ -123,8 +182,14 @@ fn param(scene: &Scene<'_>, mode: Mode, quoted: bool, param: &Shared<Param>) -> 
 }
 
 /// A parameter, once what it refers to is found.
-#[tactic(auto, using(crate::proofs::Leaves::refused))]
-pub(crate) fn found_act(scene: &Scene<'_>, mode: Mode, quoted: bool, param: &Shared<Param>, found: Found) -> Result<Act, Stop>
+#[tactic(auto, using(crate::proofs::Leaves::refused, crate::proofs::Params::points))]
+pub(crate) fn found_act(
+    scene: &Scene<'_>,
+    mode: Mode,
+    quoted: bool,
+    param: &Shared<Param>,
+    found: Found,
+) -> Result<Act, Stop>
     ensures { (at : State) → Sees scene.now at → Acts result (λ sub. param_found_in sub (inside sub scene.now.room) mode quoted (out-Param param.now) (found_of found) at) scene.now.room at }
 {
     match param.get() {
@@ -137,7 +202,11 @@ pub(crate) fn found_act(scene: &Scene<'_>, mode: Mode, quoted: bool, param: &Sha
             Ok(Act::Point(mode, quoted, param.share()?, text_found(scene, &found)?))
         }
         Param::Value(reference, op) => {
-            let to = Target { mode, quoted, name: name_of(scene.alloc, reference)? };
+            let to = Target {
+                mode,
+                quoted,
+                name: name_of(scene.alloc, reference)?,
+            };
             operated(scene, to, op.as_ref(), found)
         }
     }
@@ -153,26 +222,48 @@ fn counted(scene: &Scene<'_>, quoted: bool, found: &Found) -> Result<Act, Stop>
 
 /// A parameter that points to another one, by the reference that its text is.
 #[tactic(auto, using(crate::proofs::Params::pointed_found_goes, crate::proofs::Params::pointed_subscript_goes, crate::proofs::Params::pointed_not_found))]
-pub(crate) fn pointed_by(scene: &Scene<'_>, mode: Mode, quoted: bool, param: &Shared<Param>, reference: &Ref) -> Result<Act, Stop>
+pub(crate) fn pointed_by(
+    scene: &Scene<'_>,
+    mode: Mode,
+    quoted: bool,
+    param: &Shared<Param>,
+    reference: &Ref,
+) -> Result<Act, Stop>
     ensures { (at : State) → Sees scene.now at → Acts result (λ sub. pointed_at sub (inside sub scene.now.room) mode quoted (out-Param param.now) (Some reference.now) at) scene.now.room at }
 {
     match refer(scene, reference) {
         Ok(Referred::Found(found)) => pointed_act(scene, mode, quoted, param, found),
         Ok(Referred::Subscript(parts)) => {
             let name = name_of(scene.alloc, reference)?;
-            open(scene, Parts::Subscript(parts), Mode::Text, Tildes::Nowhere, Use::Pointed(mode, quoted, param.share()?, name))
+            open(
+                scene,
+                Parts::Subscript(parts),
+                Mode::Text,
+                Tildes::Nowhere,
+                Use::Pointed(mode, quoted, param.share()?, name),
+            )
         }
         Err(stopped) => Err(stopped),
     }
 }
 
 /// A parameter that points to another one, once that is found.
-pub(crate) fn pointed_act(scene: &Scene<'_>, mode: Mode, quoted: bool, param: &Shared<Param>, found: Found) -> Result<Act, Stop>
+pub(crate) fn pointed_act(
+    scene: &Scene<'_>,
+    mode: Mode,
+    quoted: bool,
+    param: &Shared<Param>,
+    found: Found,
+) -> Result<Act, Stop>
     ensures { (at : State) → Sees scene.now at → Acts result (λ sub. pointed_found sub (inside sub scene.now.room) mode quoted (out-Param param.now) (found_of found) at) scene.now.room at }
 {
     match param.get() {
         Param::Indirect(reference, op) => {
-            let to = Target { mode, quoted, name: name_of(scene.alloc, reference)? };
+            let to = Target {
+                mode,
+                quoted,
+                name: name_of(scene.alloc, reference)?,
+            };
             operated(scene, to, op.as_ref(), found)
         }
         _ => Ok(Act::Give(Given::new(scene.alloc))),

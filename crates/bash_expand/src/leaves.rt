@@ -88,15 +88,32 @@ fn ansi(scene: &Scene<'_>, text: &[u8]) -> Result<Act, Stop>
 fn double(scene: &Scene<'_>, mode: Mode, parts: &Shared<List<QPiece>>) -> Result<Act, Stop>
     ensures { (at : State) → Acts result (λ sub. double_of sub (inside sub scene.now.room) mode parts.now at) scene.now.room at }
 {
-    open(scene, Parts::Quoted(parts.share()?), mode, Tildes::Nowhere, Use::Quotes)
+    open(
+        scene,
+        Parts::Quoted(parts.share()?),
+        mode,
+        Tildes::Nowhere,
+        Use::Quotes,
+    )
 }
 
 // An extended group.
 #[tactic(auto, using(crate::proofs::Opened::group_opens))]
-fn group(scene: &Scene<'_>, mode: Mode, byte: u8, parts: &Shared<List<GroupPart>>) -> Result<Act, Stop>
+fn group(
+    scene: &Scene<'_>,
+    mode: Mode,
+    byte: u8,
+    parts: &Shared<List<GroupPart>>,
+) -> Result<Act, Stop>
     ensures { (at : State) → Acts result (λ sub. (enclosed (byte ∷ 40 ∷ []) (41 ∷ []) <$> opened (inside sub scene.now.room) (λ p. p.group mode parts.now)) at) scene.now.room at }
 {
-    open(scene, Parts::Group(parts.share()?), mode, Tildes::Nowhere, Use::Group(byte))
+    open(
+        scene,
+        Parts::Group(parts.share()?),
+        mode,
+        Tildes::Nowhere,
+        Use::Group(byte),
+    )
 }
 
 /// What a part of a word comes to.
@@ -168,7 +185,13 @@ pub(crate) fn arith(scene: &Scene<'_>, part: &AP) -> Result<Act, Stop>
 {
     let alloc = scene.alloc;
     match part {
-        AP::Group(parts) => open(scene, Parts::Arith(parts.share()?), Mode::Text, Tildes::Nowhere, Use::Parenthesis),
+        AP::Group(parts) => open(
+            scene,
+            Parts::Arith(parts.share()?),
+            Mode::Text,
+            Tildes::Nowhere,
+            Use::Parenthesis,
+        ),
         AP::Dollar(found) => dollar(scene, Mode::Text, true, found),
         AP::Back(items) => Ok(Act::Run(true, items.share()?)),
         AP::Lone => Ok(Act::Give(byte(alloc, b'$')?)),
@@ -183,7 +206,13 @@ pub(crate) fn subscript(scene: &Scene<'_>, part: &SubPart) -> Result<Act, Stop>
     ensures { (at : State) → Sees scene.now at → Acts result (λ sub. subscript_at sub (inside sub scene.now.room) (out-SubPart part.now) at) scene.now.room at }
 {
     match part {
-        SubPart::Sub(parts) => open(scene, Parts::Subscript(parts.share()?), Mode::Text, Tildes::Nowhere, Use::Bracket),
+        SubPart::Sub(parts) => open(
+            scene,
+            Parts::Subscript(parts.share()?),
+            Mode::Text,
+            Tildes::Nowhere,
+            Use::Bracket,
+        ),
         SubPart::Blank(found) => Ok(Act::Give(blank(scene.alloc, *found)?)),
         SubPart::Piece(found) => piece(scene, Mode::Text, found),
     }

@@ -3,6 +3,7 @@
 #![tactic(auto)]
 
 mod dollars;
+mod ends;
 mod expander;
 mod leaves;
 mod level;

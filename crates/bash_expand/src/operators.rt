@@ -42,7 +42,12 @@ fn deed(op: ValueOp) -> Deed
 }
 
 /// What is found, with an operator or without one.
-pub(crate) fn operated(scene: &Scene<'_>, to: Target, op: Option<&Op>, found: Found) -> Result<Act, Stop>
+pub(crate) fn operated(
+    scene: &Scene<'_>,
+    to: Target,
+    op: Option<&Op>,
+    found: Found,
+) -> Result<Act, Stop>
     ensures { (at : State) → Sees scene.now at →
         Acts result (λ sub. operated_in sub (inside sub scene.now.room) to.mode to.quoted to.name (option_copied op.entry) (found_of found) at) scene.now.room at }
 {
@@ -70,10 +75,22 @@ fn op_act(scene: &Scene<'_>, to: Target, op: &Op, found: Found) -> Result<Act, S
 
 // `#`, `##`, `%` and `%%`
 #[tactic(auto, using(crate::proofs::OpenedMore::strip_opens))]
-fn strip_act(scene: &Scene<'_>, to: Target, op: StripOp, word: &Shared<List<PW>>, found: Found) -> Result<Act, Stop>
+fn strip_act(
+    scene: &Scene<'_>,
+    to: Target,
+    op: StripOp,
+    word: &Shared<List<PW>>,
+    found: Found,
+) -> Result<Act, Stop>
     ensures { (at : State) → Acts result (λ sub. op_at sub (inside sub scene.now.room) to.mode to.quoted to.name (found_of found) (Op-F.Strip op word.now) at) scene.now.room at }
 {
-    open(scene, Parts::Operand(word.share()?), Mode::Text, Tildes::AtStart, Use::Strip(to, op, found))
+    open(
+        scene,
+        Parts::Operand(word.share()?),
+        Mode::Text,
+        Tildes::AtStart,
+        Use::Strip(to, op, found),
+    )
 }
 
 // The words that are there.
@@ -98,20 +115,45 @@ fn share_length(length: Option<&Shared<List<SW>>>) -> Result<Option<Shared<List<
 
 // `/`, `//`, `/#` and `/%`
 #[tactic(auto, using(crate::proofs::OpenedMore::pattern_opens))]
-fn replace_act(scene: &Scene<'_>, to: Target, op: ReplaceOp, word: &Shared<List<PW>>, other: Option<&Shared<List<PW>>>, found: Found) -> Result<Act, Stop>
+fn replace_act(
+    scene: &Scene<'_>,
+    to: Target,
+    op: ReplaceOp,
+    word: &Shared<List<PW>>,
+    other: Option<&Shared<List<PW>>>,
+    found: Found,
+) -> Result<Act, Stop>
     ensures { (at : State) → Acts result (λ sub. op_at sub (inside sub scene.now.room) to.mode to.quoted to.name (found_of found) (Op-F.Replace op word.now (option_copied other.entry)) at) scene.now.room at }
 {
     let other = share_word(other)?;
-    open(scene, Parts::Operand(word.share()?), Mode::Text, Tildes::AtStart, Use::Pattern(to, op, other, found))
+    open(
+        scene,
+        Parts::Operand(word.share()?),
+        Mode::Text,
+        Tildes::AtStart,
+        Use::Pattern(to, op, other, found),
+    )
 }
 
 // `^`, `^^`, `,` and `,,`
 #[tactic(auto, using(crate::proofs::OpenedMore::case_opens))]
-fn case_act(scene: &Scene<'_>, to: Target, op: CaseOp, word: &Shared<List<PW>>, found: Found) -> Result<Act, Stop>
+fn case_act(
+    scene: &Scene<'_>,
+    to: Target,
+    op: CaseOp,
+    word: &Shared<List<PW>>,
+    found: Found,
+) -> Result<Act, Stop>
     ensures { (at : State) → Acts result (λ sub. op_at sub (inside sub scene.now.room) to.mode to.quoted to.name (found_of found) (Op-F.Op::Case op word.now) at) scene.now.room at }
 {
     let written = is_written(word.get().as_slice());
-    open(scene, Parts::Operand(word.share()?), Mode::Text, Tildes::Nowhere, Use::Case(to, op, written, found))
+    open(
+        scene,
+        Parts::Operand(word.share()?),
+        Mode::Text,
+        Tildes::Nowhere,
+        Use::Case(to, op, written, found),
+    )
 }
 
 // Whether a pattern is written.
@@ -126,15 +168,33 @@ fn is_written(word: &[PW]) -> bool
 
 // A substring or a slice.
 #[tactic(auto, using(crate::proofs::OpenedMore::slice_opens))]
-fn slice_act(scene: &Scene<'_>, to: Target, offset: &Shared<List<SW>>, length: Option<&Shared<List<SW>>>, found: Found) -> Result<Act, Stop>
+fn slice_act(
+    scene: &Scene<'_>,
+    to: Target,
+    offset: &Shared<List<SW>>,
+    length: Option<&Shared<List<SW>>>,
+    found: Found,
+) -> Result<Act, Stop>
     ensures { (at : State) → Acts result (λ sub. op_at sub (inside sub scene.now.room) to.mode to.quoted to.name (found_of found) (Op-F.Slice offset.now (option_copied length.entry)) at) scene.now.room at }
 {
     let length = share_length(length)?;
-    open(scene, Parts::Slice(offset.share()?), Mode::Text, Tildes::Nowhere, Use::Offset(to, length, found))
+    open(
+        scene,
+        Parts::Slice(offset.share()?),
+        Mode::Text,
+        Tildes::Nowhere,
+        Use::Offset(to, length, found),
+    )
 }
 
 // `-`, `=`, `?` and `+`
-fn value_act(scene: &Scene<'_>, to: Target, op: ValueOp, word: &Shared<List<PW>>, found: Found) -> Result<Act, Stop>
+fn value_act(
+    scene: &Scene<'_>,
+    to: Target,
+    op: ValueOp,
+    word: &Shared<List<PW>>,
+    found: Found,
+) -> Result<Act, Stop>
     ensures { (at : State) → Sees scene.now at →
         Acts result (λ sub. value_at sub (inside sub scene.now.room) to.mode to.quoted (lacks_in op (found_of found)) to.name (found_of found) (deed_in op) word.now at) scene.now.room at }
 {
@@ -149,19 +209,37 @@ fn value_act(scene: &Scene<'_>, to: Target, op: ValueOp, word: &Shared<List<PW>>
 
 // `-`
 #[tactic(auto, using(crate::proofs::OpenedMore::value_opens))]
-fn default_act(scene: &Scene<'_>, to: &Target, lacking: bool, word: &Shared<List<PW>>, found: &Found) -> Result<Act, Stop>
+fn default_act(
+    scene: &Scene<'_>,
+    to: &Target,
+    lacking: bool,
+    word: &Shared<List<PW>>,
+    found: &Found,
+) -> Result<Act, Stop>
     ensures { (at : State) → Sees scene.now at →
         Acts result (λ sub. value_at sub (inside sub scene.now.room) to.now.mode to.now.quoted lacking to.now.name (found_of found.now) Default word.now at) scene.now.room at }
 {
     if !lacking {
         return shown_act(scene, to.mode, to.quoted, found);
     }
-    open(scene, Parts::Operand(word.share()?), to.mode, Tildes::AtStart, Use::Value)
+    open(
+        scene,
+        Parts::Operand(word.share()?),
+        to.mode,
+        Tildes::AtStart,
+        Use::Value,
+    )
 }
 
 // `=`
 #[tactic(auto, using(crate::proofs::OpenedMore::assign_opens))]
-fn assign_act(scene: &Scene<'_>, to: Target, lacking: bool, word: &Shared<List<PW>>, found: Found) -> Result<Act, Stop>
+fn assign_act(
+    scene: &Scene<'_>,
+    to: Target,
+    lacking: bool,
+    word: &Shared<List<PW>>,
+    found: Found,
+) -> Result<Act, Stop>
     ensures { (at : State) → Sees scene.now at →
         Acts result (λ sub. value_at sub (inside sub scene.now.room) to.mode to.quoted lacking to.name (found_of found) Assign word.now at) scene.now.room at }
 {
@@ -170,7 +248,13 @@ fn assign_act(scene: &Scene<'_>, to: Target, lacking: bool, word: &Shared<List<P
             if !lacking {
                 return shown_act(scene, to.mode, to.quoted, &Found::One(text, Some(place)));
             }
-            open(scene, Parts::Operand(word.share()?), Mode::Text, Tildes::AtStart, Use::Assign(to.quoted, place))
+            open(
+                scene,
+                Parts::Operand(word.share()?),
+                Mode::Text,
+                Tildes::AtStart,
+                Use::Assign(to.quoted, place),
+            )
         }
         Found::One(_, None) => Err(Stop::Fault(Fault::BadSubstitution(to.name))),
         Found::Many(_, _) => Err(Stop::Fault(Fault::BadSubstitution(to.name))),
@@ -179,24 +263,48 @@ fn assign_act(scene: &Scene<'_>, to: Target, lacking: bool, word: &Shared<List<P
 
 // `?`
 #[tactic(auto, using(crate::proofs::OpenedMore::fail_opens))]
-fn fail_act(scene: &Scene<'_>, to: Target, lacking: bool, word: &Shared<List<PW>>, found: &Found) -> Result<Act, Stop>
+fn fail_act(
+    scene: &Scene<'_>,
+    to: Target,
+    lacking: bool,
+    word: &Shared<List<PW>>,
+    found: &Found,
+) -> Result<Act, Stop>
     ensures { (at : State) → Sees scene.now at →
         Acts result (λ sub. value_at sub (inside sub scene.now.room) to.mode to.quoted lacking to.name (found_of found.now) Fail word.now at) scene.now.room at }
 {
     if !lacking {
         return shown_act(scene, to.mode, to.quoted, found);
     }
-    open(scene, Parts::Operand(word.share()?), Mode::Text, Tildes::AtStart, Use::Fail(to.name))
+    open(
+        scene,
+        Parts::Operand(word.share()?),
+        Mode::Text,
+        Tildes::AtStart,
+        Use::Fail(to.name),
+    )
 }
 
 // `+`
 #[tactic(auto, using(crate::proofs::OpenedMore::value_opens))]
-fn other_act(scene: &Scene<'_>, to: &Target, lacking: bool, word: &Shared<List<PW>>, found: &Found) -> Result<Act, Stop>
+fn other_act(
+    scene: &Scene<'_>,
+    to: &Target,
+    lacking: bool,
+    word: &Shared<List<PW>>,
+    found: &Found,
+) -> Result<Act, Stop>
     ensures { (at : State) → Sees scene.now at →
         Acts result (λ sub. value_at sub (inside sub scene.now.room) to.now.mode to.now.quoted lacking to.now.name (found_of found.now) Other word.now at) scene.now.room at }
 {
     if lacking {
         return Ok(Act::Give(no_other(scene.alloc, to.quoted, found)));
     }
-    open(scene, Parts::Operand(word.share()?), to.mode, Tildes::AtStart, Use::Value)
+    open(
+        scene,
+        Parts::Operand(word.share()?),
+        to.mode,
+        Tildes::AtStart,
+        Use::Value,
+    )
 }

@@ -94,7 +94,12 @@ pub(crate) fn text_found(scene: &Scene<'_>, found: &Found) -> Result<Bytes, Memo
         Found::One(None, _) => Ok(Bytes::new(scene.alloc)),
         Found::Many(star, source) => {
             let texts = texts(scene.alloc, source)?;
-            join(scene.alloc, *star, first_of_ifs(scene.vars), texts.as_slice())
+            join(
+                scene.alloc,
+                *star,
+                first_of_ifs(scene.vars),
+                texts.as_slice(),
+            )
         }
     }
 }
