@@ -5,4 +5,5 @@ pub mod Numbers
 pub mod Opened
 pub mod OpenedMore
 pub mod Params
+pub mod Taken
 pub mod Turns

@@ -1,3 +1,4 @@
 pub mod Acts
+pub mod Nexts
 pub mod Rest
 pub mod Told

@@ -7,6 +7,7 @@ mod ends;
 mod expander;
 mod leaves;
 mod level;
+mod next;
 mod operators;
 mod references;
 mod scene;

@@ -1,10 +1,10 @@
 ghost use Rattle.std.specs.Prelude.{◌≡◌};
-ghost use Rattle.word_meaning.specs.Tilde.{may_begin as may_begin_of};
 ghost use Rattle.bash_expand.specs.Acts.{Opens, Refuses};
 
 use crate::level::{Act, Level, Parts, Use};
 use eb_bytes::Bytes;
 use expand_marks::Given;
+use expand_tildes::may_begin;
 use shell_state::{Fault, Opts, Stop};
 use shell_vars::Vars;
 use std::alloc::Global;
@@ -20,16 +20,6 @@ pub(crate) struct Scene<'a> {
     pub(crate) status: u8,
     /// How many parts may still be opened in it.
     pub(crate) room: usize,
-}
-
-// Whether a tilde may stand at the start.
-pub(crate) fn may_begin(tildes: Tildes) -> bool
-    ensures { result ≡ may_begin_of tildes }
-{
-    match tildes {
-        Tildes::Nowhere => false,
-        Tildes::AtStart | Tildes::InValue => true,
-    }
 }
 
 /// Opens a part, where one more may be open.

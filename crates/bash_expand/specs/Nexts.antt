@@ -1,0 +1,35 @@
+-- The next part of a level.
+use Rattle.std.specs.Prelude.{◌≡◌, ℕ, ◌+◌, Bool, Option, Some, None, Result, Ok, Err}
+use Rattle.shell_state.specs.Outcome.{Ended, Faulted, and_then}
+use Rattle.shell_state.specs.State.{State}
+use Rattle.shell_state.specs.declared.stop.Stop.{Stop}
+use Rattle.shell_state.specs.declared.stop.Stop.TheVariants as stop
+use Rattle.word_meaning.specs.Marks.{Given, followed}
+use Rattle.word_meaning.specs.Words.{inside}
+use Rattle.bash_expand.specs.Acts.{Sees}
+use Rattle.bash_expand.specs.Rest.{Sub, acted, going}
+use Rattle.bash_expand.specs.declared.level.Act.{Act}
+use Rattle.bash_expand.specs.declared.level.Level.{Level}
+use Rattle.bash_expand.specs.declared.level.Parts.{Parts}
+use Rattle.bash_expand.specs.declared.next.Next.{Next}
+use Rattle.bash_expand.specs.declared.scene.Scene.{Scene}
+
+-- the parts of a level are the next one and those behind it, or all are taken, for all ways to run commands; nothing is
+-- spent or changed
+abbrev pub Goes : Result (Option Next) Stop → (room : ℕ) → Level → Parts → State → Type 0
+Goes (Ok (Some next)) room l parts at =
+    (sub : Sub) (g : Given) → going sub (inside sub room) l.mode l.tildes l.may_be_home l.at parts g at
+    ≡ and_then (acted sub room next.act at) (λ h. going sub (inside sub room) l.mode l.tildes next.may_be_home (l.at + 1) parts (followed g h))
+Goes (Ok None) room l parts at = (sub : Sub) (g : Given) → going sub (inside sub room) l.mode l.tildes l.may_be_home l.at parts g at ≡ Ended g at
+Goes (Err (stop.Fault why)) room l parts at =
+    (sub : Sub) (g : Given) → going sub (inside sub room) l.mode l.tildes l.may_be_home l.at parts g at ≡ Faulted why at.left at.host.asked
+Goes (Err stop.Failed) room l parts at = ⊥
+Goes (Err stop.Memory) room l parts at = Unit {0}
+
+abbrev pub Nexts : Result (Option Next) Stop → Scene → Level → Parts → Type 0
+Nexts result scene l parts = (at : State) → Sees scene at → Goes result scene.room l parts at
+
+-- a part that is taken, or what stopped it
+abbrev pub IsAfter : Result (Option Next) Stop → Result Act Stop → Bool → Type 0
+IsAfter result (Ok act) may = result ≡ Ok (Some (record { act = act; may_be_home = may }))
+IsAfter result (Err why) may = result ≡ Err why
