@@ -24,6 +24,16 @@ pub(crate) struct Next {
     pub(crate) may_be_home: bool,
 }
 
+// The items of a list from a place on.
+fn items_from<T>(items: &[T], at: usize) -> &[T]
+    ensures { result.now ≡ drop at items.now }
+{
+    match items.get(at..) {
+        Some(rest) => rest,
+        None => &[],
+    }
+}
+
 // HOME in the place of a part.
 fn home_act(scene: &Scene<'_>) -> Result<Act, Stop>
     ensures { (at : State) → Sees scene.now at → Acts result (λ sub. home_in at) scene.now.room at }
@@ -46,10 +56,9 @@ fn after(act: Result<Act, Stop>, may_be_home: bool) -> Result<Option<Next>, Stop
 fn next_piece(scene: &Scene<'_>, level: &Level, pieces: &[Piece]) -> Result<Option<Next>, Stop>
     ensures { Nexts result scene.now level.now (of.Pieces pieces.now) }
 {
-    let Some(found) = pieces.get(level.at) else {
+    let [found, behind @ ..] = items_from(pieces, level.at) else {
         return Ok(None);
     };
-    let behind = &pieces[level.at + 1..];
     let may = may_follow(level.tildes, level.may_be_home, sign_of_piece(found));
     if is_home(level.tildes, level.may_be_home, found, behind) {
         return after(home_act(scene), may);
@@ -62,10 +71,9 @@ fn next_piece(scene: &Scene<'_>, level: &Level, pieces: &[Piece]) -> Result<Opti
 fn next_operand(scene: &Scene<'_>, level: &Level, parts: &[PW]) -> Result<Option<Next>, Stop>
     ensures { Nexts result scene.now level.now (of.Operand parts.now) }
 {
-    let Some(found) = parts.get(level.at) else {
+    let [found, behind @ ..] = items_from(parts, level.at) else {
         return Ok(None);
     };
-    let behind = &parts[level.at + 1..];
     let may = may_follow(level.tildes, level.may_be_home, sign_of_operand(found));
     if is_home_in_operand(level.tildes, level.may_be_home, found, behind) {
         return after(home_act(scene), may);
@@ -78,9 +86,9 @@ fn next_operand(scene: &Scene<'_>, level: &Level, parts: &[PW]) -> Result<Option
 fn next_quoted(scene: &Scene<'_>, level: &Level, parts: &[QPiece]) -> Result<Option<Next>, Stop>
     ensures { Nexts result scene.now level.now (of.Quoted parts.now) }
 {
-    match parts.get(level.at) {
-        Some(found) => after(quoted(scene, level.mode, found), level.may_be_home),
-        None => Ok(None),
+    match items_from(parts, level.at) {
+        [found, ..] => after(quoted(scene, level.mode, found), level.may_be_home),
+        [] => Ok(None),
     }
 }
 
@@ -89,9 +97,9 @@ fn next_quoted(scene: &Scene<'_>, level: &Level, parts: &[QPiece]) -> Result<Opt
 fn next_slice(scene: &Scene<'_>, level: &Level, parts: &[SW]) -> Result<Option<Next>, Stop>
     ensures { Nexts result scene.now level.now (of.Slice parts.now) }
 {
-    match parts.get(level.at) {
-        Some(found) => after(slice(scene, found), level.may_be_home),
-        None => Ok(None),
+    match items_from(parts, level.at) {
+        [found, ..] => after(slice(scene, found), level.may_be_home),
+        [] => Ok(None),
     }
 }
 
@@ -100,9 +108,9 @@ fn next_slice(scene: &Scene<'_>, level: &Level, parts: &[SW]) -> Result<Option<N
 fn next_arith(scene: &Scene<'_>, level: &Level, parts: &[AP]) -> Result<Option<Next>, Stop>
     ensures { Nexts result scene.now level.now (of.Arith parts.now) }
 {
-    match parts.get(level.at) {
-        Some(found) => after(arith(scene, found), level.may_be_home),
-        None => Ok(None),
+    match items_from(parts, level.at) {
+        [found, ..] => after(arith(scene, found), level.may_be_home),
+        [] => Ok(None),
     }
 }
 
@@ -111,9 +119,9 @@ fn next_arith(scene: &Scene<'_>, level: &Level, parts: &[AP]) -> Result<Option<N
 fn next_subscript(scene: &Scene<'_>, level: &Level, parts: &[SubPart]) -> Result<Option<Next>, Stop>
     ensures { Nexts result scene.now level.now (of.Subscript parts.now) }
 {
-    match parts.get(level.at) {
-        Some(found) => after(subscript(scene, found), level.may_be_home),
-        None => Ok(None),
+    match items_from(parts, level.at) {
+        [found, ..] => after(subscript(scene, found), level.may_be_home),
+        [] => Ok(None),
     }
 }
 
@@ -122,9 +130,9 @@ fn next_subscript(scene: &Scene<'_>, level: &Level, parts: &[SubPart]) -> Result
 fn next_group(scene: &Scene<'_>, level: &Level, parts: &[GroupPart]) -> Result<Option<Next>, Stop>
     ensures { Nexts result scene.now level.now (of.Group parts.now) }
 {
-    match parts.get(level.at) {
-        Some(found) => after(group_part(scene, level.mode, found), level.may_be_home),
-        None => Ok(None),
+    match items_from(parts, level.at) {
+        [found, ..] => after(group_part(scene, level.mode, found), level.may_be_home),
+        [] => Ok(None),
     }
 }
 
