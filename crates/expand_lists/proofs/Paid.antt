@@ -1,5 +1,5 @@
 -- Costs behind limits.
-use Rattle.std.proofs.Common.{◌≡◌, ℕ, ◌<◌, ◌≤◌, ◌/◌, List, [], length, Ok, Err, refl, sym, ap, ◌∙◌, arith}
+use Rattle.std.proofs.Common.{◌≡◌, ℕ, ◌<◌, ◌≤◌, ◌/◌, List, [], length, Ok, Err, sym, ap, ◌∙◌, arith}
 use Rattle.std.proofs.lemmas.Bool.{le-leb, lt-leb}
 use Rattle.std.specs.Prelude.{if◌then◌else◌}
 use Rattle.eb_bytes.specs.Text.{Text}
@@ -9,7 +9,7 @@ use Rattle.shell_state.specs.State.{State}
 use Rattle.shell_state.specs.declared.fault.Fault.TheVariants as fault
 use Rattle.shell_state.specs.declared.stop.Stop.{Stop}
 use Rattle.shell_state.specs.declared.stop.Stop.TheVariants as stop
-use Rattle.word_meaning.specs.Limits.{all_fields, fields_fit, one_text}
+use Rattle.word_meaning.specs.Limits.{all_fields, one_text}
 use Rattle.expand_lists.specs.Fit.{LeadsTo}
 
 -- ---- one text

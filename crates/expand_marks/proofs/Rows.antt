@@ -1,5 +1,5 @@
 -- Items that are put in a row, with something before each.
-use Rattle.std.proofs.Common.{◌≡◌, List, [], ◌∷◌, ◌++◌, append_assoc, ap, sym, ◌∙◌, refl, append-nil}
+use Rattle.std.proofs.Common.{◌≡◌, List, ◌∷◌, ◌++◌, append_assoc, ap, sym, ◌∙◌}
 use Rattle.std.specs.List.{flat_map}
 
 -- a turn that puts what stands between and the next item at the end

@@ -1,11 +1,11 @@
 -- Slices that are refused.
-use Rattle.std.proofs.Common.{◌≡◌, ◌≢◌, ℤ, Bool, List, Option, Some, None, Result, Ok, Err, refl, sym, ap, ◌∙◌}
-use Rattle.bash_params.specs.Answer.{Answers, Refuses}
+use Rattle.std.proofs.Common.{◌≡◌, ◌≢◌, ℤ, Bool, Option, Some, None, Result, Err, refl, sym, ap, ◌∙◌}
+use Rattle.bash_params.specs.Answer.{Refuses}
 use Rattle.bash_params.specs.Cut.{substring}
 use Rattle.bash_params.specs.declared.error.ParamErr.{ParamErr}
 use Rattle.bash_params.specs.declared.error.ParamErr.TheVariants as refusal
 use Rattle.eb_bytes.specs.Text.{Text}
-use Rattle.shell_state.specs.Outcome.{Doing, Faulted, ◌<$>◌, and_then, pure}
+use Rattle.shell_state.specs.Outcome.{Faulted, ◌<$>◌, and_then, pure}
 use Rattle.shell_state.specs.State.{State}
 use Rattle.shell_state.specs.declared.stop.Stop.{Stop}
 use Rattle.shell_state.specs.declared.stop.Stop.TheVariants as stop

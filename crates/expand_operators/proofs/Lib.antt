@@ -1,4 +1,6 @@
+mod Compiled
 mod Counted
 mod Cut
-mod Each
+mod InRow
+mod Lasting
 mod Paid

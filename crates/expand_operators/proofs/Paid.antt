@@ -1,11 +1,11 @@
 -- What is made of a text once its cost is paid.
-use Rattle.std.proofs.Common.{◌≡◌, ◌≢◌, ℕ, ◌≤◌, Bool, true, false, Result, Ok, Err, refl, sym, ap, subst, ◌∙◌, arith}
+use Rattle.std.proofs.Common.{◌≡◌, ℕ, ◌≤◌, Bool, true, false, Result, Ok, Err, sym, ap, subst, ◌∙◌, arith}
 use Rattle.std.specs.Prelude.{if◌then◌else◌}
-use Rattle.bash_params.specs.Answer.{Answers, Refuses, checked}
+use Rattle.bash_params.specs.Answer.{Refuses, checked}
 use Rattle.bash_params.specs.declared.error.ParamErr.{ParamErr}
 use Rattle.bash_params.specs.declared.error.ParamErr.TheVariants as refusal
 use Rattle.eb_bytes.specs.Text.{Text}
-use Rattle.shell_state.specs.Outcome.{Doing, Outcome, Ended, Faulted, ◌>>◌, and_then, left_of, pure, refuse, Tells}
+use Rattle.shell_state.specs.Outcome.{Doing, Ended, Faulted, ◌>>◌, and_then, left_of, pure, refuse, Tells}
 use Rattle.shell_state.specs.Spending.{spend}
 use Rattle.shell_state.specs.State.{State}
 use Rattle.shell_state.specs.declared.fault.Fault.TheVariants as fault

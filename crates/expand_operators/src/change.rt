@@ -8,7 +8,7 @@ ghost use Rattle.shell_state.specs.Spending.{left, Spends};
 ghost use Rattle.shell_state.specs.State.{State};
 ghost use Rattle.shell_state.specs.declared.fault.Fault.TheVariants as fault;
 ghost use Rattle.word_meaning.specs.Operators.{case_of as case_in, fitting, replace_of as replace_in, strip_of as strip_in};
-ghost use Rattle.expand_operators.specs.Changes.{changes_text, IsTooLong, Makes};
+ghost use Rattle.expand_operators.specs.Changes.{changes_text, IsTooLong, Makes, unless};
 
 use bash_params::{ParamErr, change_case, strip};
 use bash_patterns::Pattern;
@@ -23,8 +23,10 @@ use std::sync::ledger::Ledger;
 pub(crate) struct Replacing<'a> {
     /// Which matches are replaced.
     pub(crate) op: ReplaceOp,
-    /// The pattern; none, where it is empty.
-    pub(crate) pattern: Option<&'a Pattern>,
+    /// The pattern.
+    pub(crate) pattern: &'a Pattern,
+    /// Whether it is empty, which is none.
+    pub(crate) is_empty: bool,
     /// How many marks it has.
     pub(crate) marks: usize,
     /// The other bytes.
@@ -149,18 +151,21 @@ fn stop_of(error: ParamErr) -> Stop
     }
 }
 
+// What a pattern is to a replacement: nothing, where it is empty.
+fn unless_empty<'a>(pattern: &'a Pattern, is_empty: bool) -> Option<&'a Pattern>
+    ensures { option_map meaning (option_copied result) ≡ unless is_empty (meaning pattern.now) }
+{
+    if is_empty { None } else { Some(pattern) }
+}
+
 // A text with other bytes for what a pattern matches.
 #[tactic(auto, using(crate::proofs::Paid::fits_there, crate::proofs::Paid::fits_not))]
 fn replace_text(alloc: Global, change: &Replacing<'_>, text: &[u8]) -> Result<Bytes, Stop>
-    ensures { Makes result (fitting (replaced (replace_in change.now.op) (option_map meaning (option_copied change.now.pattern)) change.now.by.now text.now)) }
+    ensures { Makes result (fitting (replaced (replace_in change.now.op) (unless change.now.is_empty (meaning change.now.pattern.now)) change.now.by.now text.now)) }
 {
-    match bash_params::replace(
-        alloc,
-        replace_of(change.op),
-        text,
-        change.pattern,
-        change.by,
-    ) {
+    let op = replace_of(change.op);
+    let pattern = unless_empty(change.pattern, change.is_empty);
+    match bash_params::replace(alloc, op, text, pattern, change.by) {
         Ok(text) => Ok(text),
         Err(error) => Err(stop_of(error)),
     }

@@ -94,6 +94,7 @@ pub fn length_of(found: &Found) -> usize
 }
 
 // The indices of an array, as texts.
+#[tactic(auto, using(crate::proofs::Counted::no_index_yet))]
 fn keys(alloc: Global, elements: &Elements) -> Result<List<Bytes>, Memory>
     ensures { IfOk result (λ texts. texts ≡ map decimal_text (finite.keys elements.now)) }
 {

@@ -1,5 +1,5 @@
 -- Variables that may not be read.
-use Rattle.std.proofs.Common.{◌≡◌, Err, ap}
+use Rattle.std.proofs.Common.{Err, ap}
 use Rattle.eb_bytes.specs.Text.{Text}
 use Rattle.shell_state.specs.Outcome.{Doing, and_then, ◌>>◌}
 use Rattle.shell_state.specs.State.{State}

@@ -1,5 +1,5 @@
 -- What the code keeps of what a reference finds, as the meaning of words has it.
-use Rattle.std.specs.Prelude.{◌≡◌, ℤ, Result, Ok, Err, Some, None}
+use Rattle.std.specs.Prelude.{◌≡◌, ℤ, Result, Ok, Err, Some}
 use Rattle.std.specs.Option.{option_map}
 use Rattle.eb_bytes.specs.Text.{Text}
 use Rattle.shell_state.specs.Outcome.{Doing, Outcome, Ended, Faulted, ◌>>◌}

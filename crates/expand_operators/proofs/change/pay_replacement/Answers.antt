@@ -1,4 +1,4 @@
-use Rattle.std.proofs.Common.{◌≡◌, ◌≤◌, ◌/◌, refl, ◌∙◌, arith}
+use Rattle.std.proofs.Common.{◌/◌, refl, ◌∙◌, arith}
 use Rattle.bash_params.specs.Cost.{match_cost}
 use Rattle.shell_state.specs.Spending.{left}
 use Rattle.bash_cond.proofs.Matched.{no_time, once_more, times_stopped}

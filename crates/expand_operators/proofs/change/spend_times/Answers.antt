@@ -1,4 +1,4 @@
-use Rattle.std.proofs.Common.{◌≡◌, ◌≤◌, refl, ◌∙◌, arith}
+use Rattle.std.proofs.Common.{refl, ◌∙◌, arith}
 use Rattle.shell_state.specs.Spending.{left}
 use Rattle.bash_cond.proofs.Matched.{no_time, once_more, times_stopped}
 use Rattle.expand_operators.proofs.change.spend_times.Goals as goal
