@@ -1,9 +1,10 @@
 pub mod Falls
-pub mod Leaves
 pub mod Levels
 pub mod Numbers
 pub mod Opened
 pub mod OpenedMore
 pub mod Params
+pub mod Refused
 pub mod Taken
 pub mod Turns
+pub mod Values

@@ -7,18 +7,20 @@ use Rattle.eb_syntax.specs.declared.tree.Op.{Op}
 use Rattle.eb_syntax.specs.declared.tree.AP.TheOpen.{Param-F}
 use Rattle.eb_syntax.specs.declared.tree.Param.{Param, out-Param}
 use Rattle.eb_syntax.specs.declared.tree.SubPart.{SubPart}
-use Rattle.shell_state.specs.Outcome.{Doing, Outcome, Ended, Faulted, ◌>>=◌, and_then}
+use Rattle.shell_state.specs.Outcome.{Doing, Outcome, Ended, Faulted, ◌>>=◌, and_then, refuse}
+use Rattle.shell_state.specs.declared.fault.Fault.TheVariants as fault
 use Rattle.shell_state.specs.State.{State}
 use Rattle.shell_state.specs.declared.stop.Stop.{Stop}
 use Rattle.shell_state.specs.declared.stop.Stop.TheVariants as stop
 use Rattle.word_meaning.specs.Layers.{ParamLayer}
 use Rattle.word_meaning.specs.Marks.{Given}
+use Rattle.word_meaning.specs.Operators.{shown}
 use Rattle.word_meaning.specs.References.{Found, name_of, referred, text_found}
 use Rattle.word_meaning.specs.Words.{asks_indices, index, indirect, inside, param_at, pointed}
 use Rattle.word_meaning.specs.declared.mode.Mode.{Mode}
 use Rattle.word_meaning.specs.declared.mode.Mode.TheVariants as mode
 use Rattle.word_meaning.specs.declared.mode.Tildes.TheVariants as tildes
-use Rattle.expand_values.specs.Seen.{element_at, found_of}
+use Rattle.expand_values.specs.Seen.{Finds, element_at, found_of}
 use Rattle.expand_values.specs.declared.found.Found.{Found as Kept}
 use Rattle.bash_expand.specs.Acts.{Acts, IsReferred, Opens, Refers}
 use Rattle.bash_expand.specs.Rest.{Sub, param_found, pointed_at, pointed_found, referred_name}
@@ -122,3 +124,10 @@ pointed_not_found (stop.Fault w) m quoted p r n at h =
     λ sub. ap (λ o. and_then o (pointed_found sub (inside sub n) m quoted (out-Param p))) (h (index sub (inside sub n)))
 pointed_not_found stop.Failed m quoted p r n at h = absurd h
 pointed_not_found stop.Memory m quoted p r n at h = tt
+
+-- what was not found is not shown
+pub shown_not : (why : Stop) (m : Mode) (quoted : Bool) (o : Sub → Outcome Found) (n : ℕ) (at : State) → ((sub : Sub) → Finds (Err why) (o sub) at)
+    → Acts (Err why) (λ sub. and_then (o sub) (shown m quoted)) n at
+shown_not (stop.Fault w) m quoted o n at f = λ sub. ap (λ x. and_then x (shown m quoted)) (f sub)
+shown_not stop.Failed m quoted o n at f = absurd (f (λ items. refuse fault.DepthLimit))
+shown_not stop.Memory m quoted o n at f = tt

@@ -1,11 +1,11 @@
 -- What one part of a word comes to.
-use Rattle.std.specs.Prelude.{◌≡◌, ℕ, ℤ, ◌<◌, ◌≤◌, Bool, true, false, List, [], ◌∷◌, Result, Ok, Err}
+use Rattle.std.specs.Prelude.{◌≡◌, ℕ, ℤ, ◌<◌, ◌≤◌, Bool, true, false, List, [], ◌∷◌, Option, Result, Ok, Err}
 use Rattle.eb_bytes.specs.Text.{Text}
-use Rattle.eb_syntax.specs.Tree.{Ref}
+use Rattle.eb_syntax.specs.Tree.{GroupPart, Ref}
 use Rattle.eb_syntax.specs.declared.tree.AP.TheOpen.{Param-F}
 use Rattle.eb_syntax.specs.declared.tree.PW.{PW}
 use Rattle.eb_syntax.specs.declared.tree.SubPart.{SubPart}
-use Rattle.shell_state.specs.Outcome.{Doing, Outcome, Ended, Faulted, ◌>>=◌, left_of}
+use Rattle.shell_state.specs.Outcome.{Doing, Outcome, Ended, Faulted, ◌>>=◌, ◌<$>◌, left_of, refuse}
 use Rattle.shell_state.specs.State.{State}
 use Rattle.shell_state.specs.declared.fault.Fault.TheVariants as fault
 use Rattle.shell_state.specs.declared.stop.Stop.{Stop}
@@ -14,10 +14,12 @@ use Rattle.word_meaning.specs.Laws.{SubstitutionsLast}
 use Rattle.word_meaning.specs.Layers.{ParamLayer}
 use Rattle.word_meaning.specs.Marks as meaning
 use Rattle.word_meaning.specs.Operators as meaning_of
-use Rattle.word_meaning.specs.References.{name_of, referred}
+use Rattle.word_meaning.specs.References.{Place, name_of, referred}
 use Rattle.word_meaning.specs.Tilde.{may_begin}
+use Rattle.word_meaning.specs.Words.{Parts, assigned_value, enclosed, opened, operand_text}
 use Rattle.word_meaning.specs.declared.mode.Mode.{Mode}
 use Rattle.word_meaning.specs.declared.mode.Tildes.{Tildes}
+use Rattle.word_meaning.specs.declared.mode.Tildes.TheVariants as tildes
 use Rattle.bash_expand.specs.Rest.{Sub, acted}
 use Rattle.expand_values.specs.Seen.{element_at, found_of}
 use Rattle.bash_expand.specs.declared.dollars.Referred.{Referred}
@@ -25,7 +27,7 @@ use Rattle.bash_expand.specs.declared.dollars.Referred.TheVariants as referred_a
 use Rattle.bash_expand.specs.declared.level.Act.{Act}
 use Rattle.bash_expand.specs.declared.level.Act.TheVariants as act
 use Rattle.bash_expand.specs.declared.level.Level.{Level}
-use Rattle.bash_expand.specs.declared.level.Parts.{Parts}
+use Rattle.bash_expand.specs.declared.level.Parts.{Parts as Open}
 use Rattle.bash_expand.specs.declared.level.Use.{Use}
 use Rattle.bash_expand.specs.declared.operators.Deed.{Deed}
 use Rattle.bash_expand.specs.declared.operators.Deed.TheVariants as deed
@@ -54,7 +56,7 @@ Ends (Err stop.Failed) o n at = ⊥
 Ends (Err stop.Memory) o n at = (sub : Sub) → SubstitutionsLast sub → left_of (o sub) ≤ at.left
 
 -- a part that is opened
-abbrev pub level_of : Parts → Mode → Tildes → Use → Level
+abbrev pub level_of : Open → Mode → Tildes → Use → Level
 level_of parts mode tildes used = record {
   parts = parts;
   at = 0;
@@ -66,7 +68,7 @@ level_of parts mode tildes used = record {
 }
 
 -- it is opened, where one more may be
-abbrev pub Opens : Result Act Stop → Parts → Mode → Tildes → Use → ℕ → Type 0
+abbrev pub Opens : Result Act Stop → Open → Mode → Tildes → Use → ℕ → Type 0
 Opens (Ok a) parts mode tildes used n = (0 < n) × (a ≡ act.Open (level_of parts mode tildes used))
 Opens (Err (stop.Fault why)) parts mode tildes used n = (n ≡ 0) × (why ≡ fault.DepthLimit)
 Opens (Err stop.Failed) parts mode tildes used n = ⊥
@@ -106,3 +108,15 @@ deed_of deed.Other = meaning_of.Other
 abbrev pub is_written : List PW → Bool
 is_written [] = false
 is_written (w ∷ ws) = true
+
+-- an extended group, with the byte before its parenthesis
+abbrev pub grouped : Option Parts → Mode → ℕ → List GroupPart → Doing meaning.Given
+grouped i m b ps = enclosed (b ∷ 40 ∷ []) (41 ∷ []) <$> opened i (λ p. p.group m ps)
+
+-- `=` without a value: the word, then the assignment
+abbrev pub assigns_at : Sub → Option Parts → (quoted : Bool) → Place → List PW → Doing meaning.Given
+assigns_at sub i quoted place ws = operand_text sub i tildes.AtStart ws >>= assigned_value sub i quoted place
+
+-- `?` without a value: the word, then the fault
+abbrev pub fails_at : Sub → Option Parts → (name : Text) → List PW → Doing meaning.Given
+fails_at sub i name ws = operand_text sub i tildes.AtStart ws >>= (λ g. refuse (fault.UnsetParameter name (meaning.bytes_of g)))

@@ -169,7 +169,7 @@ fn param_by(
 }
 
 // A parameter.
-#[tactic(auto, using(crate::proofs::Leaves::refused))]
+#[tactic(auto, using(crate::proofs::Refused::refused))]
 fn param(scene: &Scene<'_>, mode: Mode, quoted: bool, param: &Shared<Param>) -> Result<Act, Stop>
     ensures { (at : State) → Sees scene.now at → Acts result (λ sub. param_at sub (inside sub scene.now.room) mode quoted (out-Param param.now) at) scene.now.room at }
 {
@@ -182,7 +182,7 @@ fn param(scene: &Scene<'_>, mode: Mode, quoted: bool, param: &Shared<Param>) -> 
 }
 
 /// A parameter, once what it refers to is found.
-#[tactic(auto, using(crate::proofs::Leaves::refused, crate::proofs::Params::points))]
+#[tactic(auto, using(crate::proofs::Refused::refused, crate::proofs::Params::points))]
 pub(crate) fn found_act(
     scene: &Scene<'_>,
     mode: Mode,

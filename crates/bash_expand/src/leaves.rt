@@ -1,5 +1,4 @@
-ghost use Rattle.std.specs.Prelude.{◌≡◌, [], ◌∷◌, IfOk};
-ghost use Rattle.shell_state.specs.Outcome.{◌<$>◌};
+ghost use Rattle.std.specs.Prelude.{◌≡◌, IfOk};
 ghost use Rattle.shell_state.specs.State.{State};
 ghost use Rattle.eb_syntax.specs.declared.tree.AP.{out-AP};
 ghost use Rattle.eb_syntax.specs.declared.tree.PW.{out-PW};
@@ -7,9 +6,9 @@ ghost use Rattle.eb_syntax.specs.declared.tree.Piece.{out-Piece};
 ghost use Rattle.eb_syntax.specs.declared.tree.QPiece.{out-QPiece};
 ghost use Rattle.eb_syntax.specs.declared.tree.SW.{out-SW};
 ghost use Rattle.eb_syntax.specs.declared.tree.SubPart.{out-SubPart};
-ghost use Rattle.word_meaning.specs.Words.{after_backslash as after_backslash_of, ansi as ansi_of, arith_at, blank_part, byte as byte_of, double as double_of, enclosed, group_at, inside, opened, operand_at, piece_at, plain_part, quoted_at, quoted_byte as quoted_byte_of, slice_at, subscript_at};
+ghost use Rattle.word_meaning.specs.Words.{after_backslash as after_backslash_of, ansi as ansi_of, arith_at, blank_part, byte as byte_of, double as double_of, group_at, inside, operand_at, piece_at, plain_part, quoted_at, quoted_byte as quoted_byte_of, slice_at, subscript_at};
 ghost use Rattle.expand_marks.specs.Seen.{given_of};
-ghost use Rattle.bash_expand.specs.Acts.{Acts, Sees};
+ghost use Rattle.bash_expand.specs.Acts.{Acts, Sees, grouped};
 
 use crate::dollars::dollar;
 use crate::level::{Act, Parts, Use};
@@ -72,7 +71,7 @@ fn after_backslash(alloc: Global, escaped: u8) -> Result<Given, Memory>
 }
 
 // `$'..'`
-#[tactic(auto, using(crate::proofs::Leaves::quoting_refused, crate::proofs::Leaves::quoting_known))]
+#[tactic(auto, using(crate::proofs::Refused::quoting_refused, crate::proofs::Refused::quoting_known))]
 fn ansi(scene: &Scene<'_>, text: &[u8]) -> Result<Act, Stop>
     ensures { (at : State) → Acts result (λ sub. ansi_of text.now at) scene.now.room at }
 {
@@ -105,7 +104,7 @@ fn group(
     byte: u8,
     parts: &Shared<List<GroupPart>>,
 ) -> Result<Act, Stop>
-    ensures { (at : State) → Acts result (λ sub. (enclosed (byte ∷ 40 ∷ []) (41 ∷ []) <$> opened (inside sub scene.now.room) (λ p. p.group mode parts.now)) at) scene.now.room at }
+    ensures { (at : State) → Acts result (λ sub. grouped (inside sub scene.now.room) mode byte parts.now at) scene.now.room at }
 {
     open(
         scene,
@@ -117,7 +116,7 @@ fn group(
 }
 
 /// What a part of a word comes to.
-#[tactic(auto, using(crate::proofs::Leaves::refused))]
+#[tactic(auto, using(crate::proofs::Refused::refused))]
 pub(crate) fn piece(scene: &Scene<'_>, mode: Mode, piece: &Piece) -> Result<Act, Stop>
     ensures { (at : State) → Sees scene.now at → Acts result (λ sub. piece_at sub (inside sub scene.now.room) mode (out-Piece piece.now) at) scene.now.room at }
 {

@@ -140,7 +140,7 @@ fn next_group(scene: &Scene<'_>, level: &Level, parts: &[GroupPart]) -> Result<O
 ///
 /// # Errors
 /// The fault of the part; `Memory`.
-pub(crate) fn next(scene: &Scene<'_>, level: &Level) -> Result<Option<Next>, Stop>
+pub(crate) fn take_next(scene: &Scene<'_>, level: &Level) -> Result<Option<Next>, Stop>
     ensures { Nexts result scene.now level.now level.now.parts }
 {
     match &level.parts {

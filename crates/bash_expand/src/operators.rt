@@ -4,17 +4,17 @@ ghost use Rattle.shell_state.specs.State.{State};
 ghost use Rattle.eb_syntax.specs.declared.tree.Op.{out-Op};
 ghost use Rattle.word_meaning.specs.Operators.{Assign, Default, Fail, Other, deed as deed_in, lacks as lacks_in};
 ghost use Rattle.eb_syntax.specs.declared.tree.AP.TheOpen.{Op-F};
-ghost use Rattle.word_meaning.specs.Words.{inside, op_at, operated as operated_in, value_at};
-ghost use Rattle.expand_values.specs.Seen.{found_of};
-ghost use Rattle.bash_expand.specs.Acts.{Acts, Sees, deed_of, is_written as is_written_in};
+ghost use Rattle.word_meaning.specs.Words.{inside, op_at, operand_value, operated as operated_in, value_at};
+ghost use Rattle.expand_values.specs.Seen.{found_of, place_of};
+ghost use Rattle.bash_expand.specs.Acts.{Acts, Sees, assigns_at, deed_of, fails_at, is_written as is_written_in};
 
 use crate::dollars::shown_act;
 use crate::level::{Act, Parts, Target, Use};
 use crate::scene::{Scene, open, unsupported};
-use eb_bytes::Memory;
+use eb_bytes::{Bytes, Memory};
 use eb_syntax::{CaseOp, Op, PW, ReplaceOp, SW, StripOp, ValueOp};
 use expand_operators::{lacks, no_other};
-use expand_values::Found;
+use expand_values::{Found, Place};
 use shared::Shared;
 use shell_state::{Fault, Stop};
 use sqlite_items::Items as List;
@@ -30,7 +30,7 @@ pub(crate) enum Deed {
 }
 
 // What an operator does.
-fn deed(op: ValueOp) -> Deed
+fn deed_by(op: ValueOp) -> Deed
     ensures { deed_of result ≡ deed_in op }
 {
     match op {
@@ -58,7 +58,7 @@ pub(crate) fn operated(
 }
 
 // What an operator comes to.
-#[tactic(auto, using(crate::proofs::Leaves::refused))]
+#[tactic(auto, using(crate::proofs::Refused::refused))]
 fn op_act(scene: &Scene<'_>, to: Target, op: &Op, found: Found) -> Result<Act, Stop>
     ensures { (at : State) → Sees scene.now at →
         Acts result (λ sub. op_at sub (inside sub scene.now.room) to.mode to.quoted to.name (found_of found) (out-Op op.now) at) scene.now.room at }
@@ -199,7 +199,7 @@ fn value_act(
         Acts result (λ sub. value_at sub (inside sub scene.now.room) to.mode to.quoted (lacks_in op (found_of found)) to.name (found_of found) (deed_in op) word.now at) scene.now.room at }
 {
     let lacking = lacks(scene.alloc, op, &found)?;
-    match deed(op) {
+    match deed_by(op) {
         Deed::Default => default_act(scene, &to, lacking, word, &found),
         Deed::Assign => assign_act(scene, to, lacking, word, found),
         Deed::Fail => fail_act(scene, to, lacking, word, &found),
@@ -207,8 +207,21 @@ fn value_act(
     }
 }
 
-// `-`
+// The word that stands for a value.
 #[tactic(auto, using(crate::proofs::OpenedMore::value_opens))]
+fn value_open(scene: &Scene<'_>, mode: Mode, word: &Shared<List<PW>>) -> Result<Act, Stop>
+    ensures { (at : State) → Acts result (λ sub. operand_value sub (inside sub scene.now.room) mode word.now at) scene.now.room at }
+{
+    open(
+        scene,
+        Parts::Operand(word.share()?),
+        mode,
+        Tildes::AtStart,
+        Use::Value,
+    )
+}
+
+// `-`
 fn default_act(
     scene: &Scene<'_>,
     to: &Target,
@@ -219,20 +232,32 @@ fn default_act(
     ensures { (at : State) → Sees scene.now at →
         Acts result (λ sub. value_at sub (inside sub scene.now.room) to.now.mode to.now.quoted lacking to.now.name (found_of found.now) Default word.now at) scene.now.room at }
 {
-    if !lacking {
-        return shown_act(scene, to.mode, to.quoted, found);
+    if lacking {
+        return value_open(scene, to.mode, word);
     }
+    shown_act(scene, to.mode, to.quoted, found)
+}
+
+// `=` to a place.
+#[tactic(auto, using(crate::proofs::OpenedMore::assign_opens))]
+fn assign_open(
+    scene: &Scene<'_>,
+    quoted: bool,
+    word: &Shared<List<PW>>,
+    place: Place,
+) -> Result<Act, Stop>
+    ensures { (at : State) → Acts result (λ sub. assigns_at sub (inside sub scene.now.room) quoted (place_of place) word.now at) scene.now.room at }
+{
     open(
         scene,
         Parts::Operand(word.share()?),
-        to.mode,
+        Mode::Text,
         Tildes::AtStart,
-        Use::Value,
+        Use::Assign(quoted, place),
     )
 }
 
 // `=`
-#[tactic(auto, using(crate::proofs::OpenedMore::assign_opens))]
 fn assign_act(
     scene: &Scene<'_>,
     to: Target,
@@ -244,25 +269,47 @@ fn assign_act(
         Acts result (λ sub. value_at sub (inside sub scene.now.room) to.mode to.quoted lacking to.name (found_of found) Assign word.now at) scene.now.room at }
 {
     match found {
-        Found::One(text, Some(place)) => {
-            if !lacking {
-                return shown_act(scene, to.mode, to.quoted, &Found::One(text, Some(place)));
-            }
-            open(
-                scene,
-                Parts::Operand(word.share()?),
-                Mode::Text,
-                Tildes::AtStart,
-                Use::Assign(to.quoted, place),
-            )
-        }
-        Found::One(_, None) => Err(Stop::Fault(Fault::BadSubstitution(to.name))),
+        Found::One(text, place) => assign_one(scene, to, lacking, word, text, place),
         Found::Many(_, _) => Err(Stop::Fault(Fault::BadSubstitution(to.name))),
     }
 }
 
-// `?`
+// `=` on one value.
+fn assign_one(
+    scene: &Scene<'_>,
+    to: Target,
+    lacking: bool,
+    word: &Shared<List<PW>>,
+    text: Option<Bytes>,
+    place: Option<Place>,
+) -> Result<Act, Stop>
+    ensures { (at : State) → Sees scene.now at →
+        Acts result (λ sub. value_at sub (inside sub scene.now.room) to.mode to.quoted lacking to.name (found_of (Found.One text place)) Assign word.now at) scene.now.room at }
+{
+    let Some(place) = place else {
+        return Err(Stop::Fault(Fault::BadSubstitution(to.name)));
+    };
+    if lacking {
+        return assign_open(scene, to.quoted, word, place);
+    }
+    shown_act(scene, to.mode, to.quoted, &Found::One(text, Some(place)))
+}
+
+// The message of `?`.
 #[tactic(auto, using(crate::proofs::OpenedMore::fail_opens))]
+fn fail_open(scene: &Scene<'_>, name: Bytes, word: &Shared<List<PW>>) -> Result<Act, Stop>
+    ensures { (at : State) → Acts result (λ sub. fails_at sub (inside sub scene.now.room) name word.now at) scene.now.room at }
+{
+    open(
+        scene,
+        Parts::Operand(word.share()?),
+        Mode::Text,
+        Tildes::AtStart,
+        Use::Fail(name),
+    )
+}
+
+// `?`
 fn fail_act(
     scene: &Scene<'_>,
     to: Target,
@@ -273,20 +320,13 @@ fn fail_act(
     ensures { (at : State) → Sees scene.now at →
         Acts result (λ sub. value_at sub (inside sub scene.now.room) to.mode to.quoted lacking to.name (found_of found.now) Fail word.now at) scene.now.room at }
 {
-    if !lacking {
-        return shown_act(scene, to.mode, to.quoted, found);
+    if lacking {
+        return fail_open(scene, to.name, word);
     }
-    open(
-        scene,
-        Parts::Operand(word.share()?),
-        Mode::Text,
-        Tildes::AtStart,
-        Use::Fail(to.name),
-    )
+    shown_act(scene, to.mode, to.quoted, found)
 }
 
 // `+`
-#[tactic(auto, using(crate::proofs::OpenedMore::value_opens))]
 fn other_act(
     scene: &Scene<'_>,
     to: &Target,
@@ -300,11 +340,5 @@ fn other_act(
     if lacking {
         return Ok(Act::Give(no_other(scene.alloc, to.quoted, found)));
     }
-    open(
-        scene,
-        Parts::Operand(word.share()?),
-        to.mode,
-        Tildes::AtStart,
-        Use::Value,
-    )
+    value_open(scene, to.mode, word)
 }

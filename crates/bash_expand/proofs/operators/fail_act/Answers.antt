@@ -1,0 +1,16 @@
+use Rattle.word_meaning.specs.Operators.{shown}
+use Rattle.word_meaning.specs.Words.{inside, operand_value}
+use Rattle.expand_values.specs.Seen.{found_of, place_of}
+use Rattle.bash_expand.specs.Acts.{assigns_at, fails_at}
+use Rattle.bash_expand.proofs.Values.{first_way, second_way}
+use Rattle.bash_expand.proofs.operators.fail_act.Goals as goal
+
+pub returns-then-lacking : goal.returns-then-lacking
+returns-then-lacking c at s =
+    first_way c.fail_open.result c.args.lacking (λ sub. fails_at sub (inside sub c.args.scene.now.room) c.args.to.name c.args.word.now)
+    (λ sub. shown c.args.to.mode c.args.to.quoted (found_of c.args.found.now)) c.args.scene.now.room at c.if-lacking.true (c.fail_open.ensures at)
+
+pub returns : goal.returns
+returns c at s =
+    second_way c.shown_act.result c.args.lacking (λ sub. fails_at sub (inside sub c.args.scene.now.room) c.args.to.name c.args.word.now)
+    (λ sub. shown c.args.to.mode c.args.to.quoted (found_of c.args.found.now)) c.args.scene.now.room at c.if-lacking.false (c.shown_act.ensures at s)
