@@ -11,7 +11,7 @@ use Rattle.word_meaning.proofs.Respected.{SideBySide, side_by_side}
 abbrev Always : List Text → Type 0
 Always names = Unit {0}
 
-always : (xs ys : List Text) → Always (xs ++ ys) → Always xs
+abbrev always : (xs ys : List Text) → Always (xs ++ ys) → Always xs
 always xs ys w = tt
 
 -- what keeps to itself side by side gives no step back

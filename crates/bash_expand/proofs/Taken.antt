@@ -31,7 +31,7 @@ pub behind : {X : Type 0} (n : ℕ) (xs : List X) (x : X) (ys : List X) → drop
 behind zero [] x ys e = absurd (cc)
 behind zero (y ∷ xs) x ys e = cc
 behind (suc n) [] x ys e = absurd (cc)
-behind (suc n) (y ∷ xs) x ys e = behind n xs x ys e
+behind (suc n) (y ∷ xs) x ys e = let more : suc n + 1 ≡ suc (n + 1) = omega arith in ap (λ k. drop k (y ∷ xs)) more ∙ behind n xs x ys e
 
 next_of : {X : Type 0} (n : ℕ) (xs : List X) (x : X) (ys : List X) → drop n xs ≡ x ∷ ys → drop n xs ≡ x ∷ drop (n + 1) xs
 next_of n xs x ys e = e ∙ ap (λ zs. x ∷ zs) (sym (behind n xs x ys e))
