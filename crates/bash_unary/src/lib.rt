@@ -1,6 +1,7 @@
 //! The operators of `[[ .. ]]` with one operand (Bash Reference Manual, "Bash Conditional Expressions"), `-v` among them.
 #![tactic(auto)]
 
+mod operator;
 mod parameter;
 
-pub use parameter::is_set;
+pub use operator::unary;
