@@ -1,7 +1,8 @@
-ghost use Rattle.std.specs.Prelude.{◌≡◌, ◌<◌, length};
+ghost use Rattle.std.specs.Prelude.{◌≡◌, ◌<◌};
 
-use bash_unary::unary;
+use bash_parser::whole_ref;
 use eb_bytes::{Budget, Bytes, Steps};
+use eb_syntax::Ref;
 use probe_base::{Answer, Fault, read_texts};
 use probe_conditions::put_stop;
 use probe_variables::{Known, before_set};
@@ -27,29 +28,37 @@ pub fn is_set(fields: &[&[u8]], answer: &mut Answer) -> Result<(), Fault> {
     if operand.len() > LONGEST {
         return Err(Fault::NoRequest);
     }
+    let reference = whole_ref(answer.alloc(), operand)?;
     let mut known = Known::new(answer.alloc(), b"", given)?;
-    put_is_set::<Brand>(operand, args, &mut known.vars, Blank::new(1), answer);
+    put_is_set::<Brand>(
+        operand,
+        reference.as_ref(),
+        args,
+        &mut known.vars,
+        Blank::new(1),
+        answer,
+    );
     Ok(())
 }
 
 fn put_is_set<L: Ledger>(
     operand: &[u8],
+    reference: Option<&Ref>,
     args: &[Bytes],
     vars: &mut Vars,
     blank: Blank,
     answer: &mut Answer,
 )
-    requires operand { length operand.now < 4294967295 }
     requires name { blank.name ≡ L.name }
     requires parts { blank.parts ≡ L.parts }
     requires some { 0 < blank.parts }
 {
     let mut budget = Budget::new(STEPS);
     let mut steps = Steps::<L>::new(blank);
-    let truth = unary(
+    let truth = bash_unary::is_set(
         answer.alloc(),
-        b'v',
         operand,
+        reference,
         args,
         vars,
         &mut budget,
