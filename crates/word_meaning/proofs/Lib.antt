@@ -3,8 +3,8 @@ mod Closed
 mod Evaluated
 pub mod Frames
 pub mod Lasting
-mod OperatorsKept
-mod PartsKept
+pub mod OperatorsKept
+pub mod PartsKept
 pub mod ReferencesKept
 pub mod Respected
 mod Rows
