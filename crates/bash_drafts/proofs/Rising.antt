@@ -1,5 +1,5 @@
 -- Bodies whose marks rise, and those that are passed over to find the body of a mark.
-use Rattle.std.proofs.Common.{◌≡◌, ℕ, zero, suc, ◌<◌, ◌==◌, leb, ltb, leb-true, ltb-true, Bool, true, false, List, [], ◌∷◌, length, get_or, drop, ap, ◌∙◌, sym, refl, arith}
+use Rattle.std.proofs.Common.{◌≡◌, ℕ, zero, suc, ◌<◌, leb, ltb, leb-true, ltb-true, Bool, true, false, List, [], ◌∷◌, get_or, drop, sym, refl, arith}
 use Rattle.std.specs.Borrow.{Bor}
 use Rattle.std.specs.Fn.{Called, ComputesKey, ComputesOnPairs, Mut}
 use Rattle.std.specs.List.{IsAllAdjacentAnswer}

@@ -25,11 +25,7 @@ fn filled_command(
     Ok(Shared::new(alloc, draft.filled(alloc, bodies)?)?)
 }
 
-fn filled_piped(
-    alloc: Global,
-    piped: PipedDraft,
-    bodies: &Bodies<'_>,
-) -> Result<Piped, Memory>
+fn filled_piped(alloc: Global, piped: PipedDraft, bodies: &Bodies<'_>) -> Result<Piped, Memory>
     ensures { IfOk result (λ filled. filled ≡ fill.filled_piped bodies.now piped) }
 {
     let PipedOf { bar, command } = piped;
@@ -70,11 +66,7 @@ fn filled_pipe(alloc: Global, pipe: PipeDraft, bodies: &Bodies<'_>) -> Result<Pi
     })
 }
 
-fn filled_joined(
-    alloc: Global,
-    joined: JoinedDraft,
-    bodies: &Bodies<'_>,
-) -> Result<Joined, Memory>
+fn filled_joined(alloc: Global, joined: JoinedDraft, bodies: &Bodies<'_>) -> Result<Joined, Memory>
     ensures { IfOk result (λ filled. filled ≡ fill.filled_joined bodies.now joined) }
 {
     let JoinedOf { junction, pipe } = joined;
@@ -98,11 +90,7 @@ fn each_joined(
     Ok(found)
 }
 
-fn filled_list(
-    alloc: Global,
-    list: AndOrDraft,
-    bodies: &Bodies<'_>,
-) -> Result<AndOr, Memory>
+fn filled_list(alloc: Global, list: AndOrDraft, bodies: &Bodies<'_>) -> Result<AndOr, Memory>
     ensures { IfOk result (λ filled. filled ≡ fill.filled_list bodies.now list) }
 {
     let AndOrOf { first, others } = list;

@@ -6,9 +6,7 @@ use crate::bodies::Bodies;
 use crate::inner::Inner;
 use crate::redirections::filled_decl;
 use eb_bytes::Memory;
-use eb_syntax::{
-    AndOrOf, Command, CoprocOf, Decl, FuncDefOf, ItemOf, JoinedOf, PipeOf, PipedOf,
-};
+use eb_syntax::{AndOrOf, Command, CoprocOf, Decl, FuncDefOf, ItemOf, JoinedOf, PipeOf, PipedOf};
 use shared::Shared;
 use std::alloc::Global;
 use std::marker::Model;

@@ -71,11 +71,7 @@ impl Inner {
     /// # Errors
     /// `Memory` where there is no room for it.
     #[tactic(auto, unfolding(eb_grammar::specs::Fill::filled_inner, eb_grammar::specs::Fill::filled_command))]
-    pub(crate) fn filled(
-        self,
-        alloc: Global,
-        bodies: &Bodies<'_>,
-    ) -> Result<Command, Memory>
+    pub(crate) fn filled(self, alloc: Global, bodies: &Bodies<'_>) -> Result<Command, Memory>
         ensures inner { IfOk result (λ filled. filled ≡ fill.filled_inner bodies.now self) }
         ensures alone { IfOk result (λ filled. filled ≡ fill.filled_command bodies.now self) }
     {

@@ -63,11 +63,7 @@ pub fn filled_redirs(
 
 // What stands before a command's name.
 #[tactic(auto, unfolding(eb_grammar::specs::Fill::filled_prefix))]
-fn filled_prefix(
-    alloc: Global,
-    prefix: Prefix,
-    bodies: &Bodies<'_>,
-) -> Result<Prefix, Memory>
+fn filled_prefix(alloc: Global, prefix: Prefix, bodies: &Bodies<'_>) -> Result<Prefix, Memory>
     ensures { IfOk result (λ filled. filled ≡ fill.filled_prefix bodies.now prefix) }
 {
     match prefix {
@@ -126,11 +122,7 @@ fn filled_arguments(
 
 // What stands after a command's name.
 #[tactic(auto, unfolding(eb_grammar::specs::Fill::filled_part))]
-fn filled_part(
-    alloc: Global,
-    part: TailPart,
-    bodies: &Bodies<'_>,
-) -> Result<TailPart, Memory>
+fn filled_part(alloc: Global, part: TailPart, bodies: &Bodies<'_>) -> Result<TailPart, Memory>
     ensures { IfOk result (λ filled. filled ≡ fill.filled_part bodies.now part) }
 {
     match part {
@@ -169,11 +161,7 @@ fn filled_tail(alloc: Global, tail: Tail, bodies: &Bodies<'_>) -> Result<Tail, M
 /// # Errors
 /// `Memory` where there is no room for it.
 #[tactic(auto, unfolding(eb_grammar::specs::Fill::filled_simple))]
-pub fn filled_simple(
-    alloc: Global,
-    simple: Simple,
-    bodies: &Bodies<'_>,
-) -> Result<Simple, Memory>
+pub fn filled_simple(alloc: Global, simple: Simple, bodies: &Bodies<'_>) -> Result<Simple, Memory>
     ensures { IfOk result (λ filled. filled ≡ fill.filled_simple bodies.now simple) }
 {
     let Simple { before, tail } = simple;
@@ -195,11 +183,7 @@ pub fn filled_simple(
 /// # Errors
 /// `Memory` where there is no room for it.
 #[tactic(auto, unfolding(eb_grammar::specs::Fill::filled_decl))]
-pub fn filled_decl(
-    alloc: Global,
-    declaration: Decl,
-    bodies: &Bodies<'_>,
-) -> Result<Decl, Memory>
+pub fn filled_decl(alloc: Global, declaration: Decl, bodies: &Bodies<'_>) -> Result<Decl, Memory>
     ensures { IfOk result (λ filled. filled ≡ fill.filled_decl bodies.now declaration) }
 {
     let Decl {
