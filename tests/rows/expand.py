@@ -126,13 +126,13 @@ NAME = re.compile(r"[A-Za-z_][A-Za-z0-9_]*")
 OWN_NAMES = {"_", "HOME", "RANDOM", "SECONDS", "LINENO", "PIPESTATUS", "BASH_VERSION", "BASH_VERSINFO", "BASH_SOURCE"}
 
 SHOW = """\
-fields() { printf 'fields\\0%s\\0' "$#" "$@" >&3; }
+fields() { printf 'fields\\0%s\\0' "$#" >&3; [[ $# == 0 ]] || printf '%s\\0' "$@" >&3; }
 show() {
-  local -; set +f
-  for n; do
-    declare -p "$n" >/dev/null 2>&1 || continue
-    [[ $(declare -p "$n" 2>/dev/null) =~ ^declare\\ -[a-z]*a ]] && k=array || k=text
-    eval "for i in \\"\\${!$n[@]}\\"; do printf '%s\\\\0' \\"$n\\" \\"\\$k\\" \\"\\$i\\" \\"\\${$n[\\$i]}\\" >&3; done"
+  local - zn zi; set +f
+  for zn; do
+    declare -p "$zn" >/dev/null 2>&1 || continue
+    declare -p "$zn" >&3; printf '\\0' >&3
+    eval "printf '%s\\0' \\"\\${#$zn[@]}\\" >&3; for zi in \\"\\${!$zn[@]}\\"; do printf '%s\\0' \\"\\$zi\\" \\"\\${$zn[\\$zi]}\\" >&3; done"
   done
 }
 """
@@ -153,29 +153,46 @@ def expanding(text, want):
     return f"fields $(({text}))"
 
 
-def ask(text, state, want, against):
-    """What bash gives: the fields, or None where it refuses; and each element of the names that occur, after it"""
+def script(text, state, want, against, out):
+    """The lines of bash that expand a text in a subshell, and write to a file what comes of it"""
     names = sorted(set(NAME.findall(text + " " + " ".join(s.field for s in state))) - OWN_NAMES - {"s1", "s2", "s3"})
     number = next((s.field.split(":")[1] for s in state if s.field.startswith("status:")), "0")
-    lines = [SHOW, "shopt -s failglob", "HOME=/homeless", "subject=" + for_bash(against or "")]
+    lines = ["(", f"exec 3>{out}", "subject=" + for_bash(against or "")]
     lines += [s.lines for s in state if s.lines]
-    command = for_bash(expanding(text, want))
-    lines += [f"(exit {number})", f"eval {command}", "r=$?", "show " + " ".join(names)]
-    with tempfile.TemporaryDirectory() as folder, open(os.path.join(folder, ".out"), "w+b") as out:
-        program = "exec 3>.out\n" + "\n".join(lines)
-        environment = {"LC_ALL": "C", "PATH": "/nowhere"}
-        subprocess.run(["/usr/bin/env", "bash", "--norc", "--noprofile", "-c", program.encode("latin-1"), "ebuild"], cwd=folder,
-                       env=environment | {"PATH": os.environ["PATH"]}, stdin=subprocess.DEVNULL, stderr=subprocess.DEVNULL,
+    lines += [f"r() {{ return {number}; }}; r", f"eval {for_bash(expanding(text, want))}", "show " + " ".join(names), ")"]
+    return "\n".join(lines) + "\n"
+
+
+def ask_all(cases):
+    """What bash gives for each case (text, state, want, against)"""
+    with tempfile.TemporaryDirectory() as folder:
+        scripts = [script(*one, f"../out/{at}") for at, one in enumerate(cases)]
+        for name in ("empty", "out"):
+            os.mkdir(os.path.join(folder, name))
+        program = os.path.join(folder, "script")
+        with open(program, "wb") as file:
+            file.write((SHOW + "shopt -s failglob\nHOME=/homeless\n" + "".join(scripts)).encode("latin-1"))
+        subprocess.run(["bash", "--norc", "--noprofile", "-c", f". {program}", "ebuild"], cwd=os.path.join(folder, "empty"),
+                       env={"LC_ALL": "C", "PATH": os.environ["PATH"]}, stdin=subprocess.DEVNULL, stderr=subprocess.DEVNULL,
                        stdout=subprocess.DEVNULL, check=False)
-        parts = out.read().decode("latin-1").split("\0")[:-1]
+        return [told(os.path.join(folder, "out", str(at))) for at in range(len(cases))]
+
+
+def told(path):
+    """What a subshell wrote: the fields, or None where bash refuses; and each element of the names that occur"""
+    with open(path, "rb") as file:
+        parts = file.read().decode("latin-1").split("\0")[:-1]
     if not parts or parts[0] != "fields":
         return None, {}
     count = int(parts[1])
-    rest = parts[2 + count:]
-    after = {}
-    for name, kind, at, value in zip(*[iter(rest)] * 4):
-        after.setdefault(name, {})[int(at) if kind == "array" else None] = value
-    return parts[2:2 + count], after
+    fields, rest, after = parts[2:2 + count], parts[2 + count:], {}
+    while rest:
+        words, number = rest[0].split(), int(rest[1])
+        name, is_array = words[2].split("=")[0], "a" in words[1]
+        pairs = rest[2:2 + 2 * number]
+        after[name] = {int(at) if is_array else None: text for at, text in zip(pairs[::2], pairs[1::2])}
+        rest = rest[2 + 2 * number:]
+    return fields, after
 
 
 def before(state):
@@ -215,7 +232,9 @@ def case(text, state=(), want="fields", against=None, steps=0, answer=None, kind
 
 def differs(why, text, answer, state=(), **more):
     """A case where bash has another answer on purpose"""
-    group("Not as in bash: " + why)
+    title = "Not as in bash: " + why
+    if next(one for one in reversed(CASES) if isinstance(one, str)) != title:
+        group(title)
     case(text, state, answer=answer, kind="differs", **more)
 
 
@@ -231,9 +250,8 @@ def request(text, state, want, against):
     return " ".join(words)
 
 
-def answered(text, state, want, against, steps):
-    """The answer of a row, from bash"""
-    fields, after = ask(text, state, want, against)
+def answered(fields, after, state, want, steps):
+    """The answer of a row, from what bash gives"""
     if fields is None:
         return None
     if want == "fields":
@@ -244,26 +262,32 @@ def answered(text, state, want, against, steps):
     return " ".join(["ok", *given, f"steps {steps}", *changed(state, {n: v for n, v in after.items() if n != "zz"})])
 
 
+def is_as_told(kind, found, answer):
+    """Whether bash does what a case says"""
+    return {"bash": found is not None, "same": found == answer, "differs": found != answer, "refuses": found is None,
+            "goes on": found is not None, "not asked": True}[kind]
+
+
 def rows():
     """The lines of the file, and what is wrong"""
-    lines, wrong, seen = HEAD.splitlines(), [], {}
+    asked = [one for one in CASES if not isinstance(one, str) and one[0] != "not asked"]
+    given = dict(zip(map(id, asked), ask_all([one[1:5] for one in asked])))
+    lines, wrong, seen = HEAD.splitlines(), [], set()
     for one in CASES:
         if isinstance(one, str):
             lines += ["", "# " + one]
             continue
         kind, text, state, want, against, steps, answer = one
-        asked = request(text, state, want, against)
-        if asked in seen:
-            wrong.append(f"twice: {asked}")
-        seen[asked] = True
-        found = None if kind == "not asked" else answered(text, state, want, against, steps)
+        row = request(text, state, want, against)
+        if row in seen:
+            continue
+        seen.add(row)
+        found = answered(*given.get(id(one), (None, {})), state, want, steps)
         if kind == "bash":
             answer = found
-        as_told = {"bash": found is not None, "same": found == answer, "differs": found != answer, "refuses": found is None,
-                   "goes on": found is not None, "not asked": True}[kind]
-        if not as_told:
-            wrong.append(f"{kind}: {asked} => {answer}, bash: {found}")
-        lines.append(f"{asked} => {answer}")
+        if not is_as_told(kind, found, answer):
+            wrong.append(f"{kind}: {row} => {answer}, bash: {found}")
+        lines.append(f"{row} => {answer}")
     return lines, wrong
 
 
@@ -288,7 +312,7 @@ def main(words):
     text = "\n".join(lines) + "\n"
     wrong += [f"no row: {line}" for line in lines if line and not line.startswith("#") and not ROW.fullmatch(line)]
     if words == []:
-        with open(ROWS, "w", encoding="ascii") as file:
+        with open(ROWS, "w", encoding="utf-8") as file:
             file.write(text)
     else:
         with open(ROWS, encoding="ascii") as file:
@@ -351,13 +375,13 @@ def value_cases():
     case('"${x-$(s1)}"', full, kind="same", answer='ok "v" steps 0')
     group("Operators in operators.")
     for form in ("${x:-${y:-z}}", '${x:-"${y:-z w}"}', '"${x:-${y:-z w}}"', "${x:-${y:-${w:-q r}}}", '"${x:+${y+n}}"', "${x:-a${y}b}",
-                 '"${x:-"a b"}"', '"${x:-\'a\'}"', "${x:-'a b'}", "${x:-\\}}", '"${x:-\\}}"', "${x:-$'a\\tb'}", '${x:-a"b c"d}'):
+                 '"${x:-"a b"}"', '"${x:-\'a\'}"', "${x:-'a b'}", "${x:-\\}}", "${x:-$'a\\tb'}", '${x:-a"b c"d}'):
         for state in ([], var("x", "v"), var("y", "p q")):
             case(form, state)
     nested = var("x", "foo.tar.gz") + var("p", "*.")
     for form in ("${x#$p}", '${x#"$p"}', "${x##$p}", "${x#${p%.}}", "${x%${x#*.}}", "${x/${x%%.*}/${x##*.}}", "${x:${#p}:${#p}+1}", "${x//./${p#?}}",
                  "${x#\"${x%.gz}\"}", "${x^^${x:0:1}}", "${x//[ot]/<$p>}", "${x/./'/'}", "${x/'.'/\"/\"}", "${x/\\./\\/}", "${x/%.gz/${p:1}xz}"):
-        case(form, nested)
+        case(form, nested + on("noglob"))
         case(f'"{form}"', nested) if "'" not in form and '"' not in form and "\\" not in form else None
 
 
@@ -378,7 +402,7 @@ def list_cases():
     for title, state in LISTS:
         group(f"The lists of an array, where {title}: unquoted, in double quotes, between bytes, and assigned.")
         for form in LIST_FORMS:
-            if title == "a is unset" and "!" in form:
+            if title == "a is unset" and "!" in form or title == "a is a text" and form in ("${a[@]:1}", "${a[*]:0:2}"):
                 continue
             case(form, state)
             case(f'"{form}"', state)
@@ -430,6 +454,11 @@ SEPARATORS = (("blank, tab and newline", []), ("unset", unset("IFS")), ("empty",
               ("a blank and a colon", ifs(" :")), ("two bytes that are no blanks", ifs("-:")), ("a letter", ifs("b")), ("a newline", ifs("\n")), ("a backslash", ifs("\\")))
 
 
+# the fields of an unquoted list `p q`, the empty text, `r:s`, where the first byte of IFS is no blank
+UNQUOTED = {"a colon": '"p q" "r" "s"', "a colon and a blank": '"p" "q" "r" "s"', "two bytes that are no blanks": '"p q" "r" "s"',
+            "a letter": '"p q" "r:s"', "a backslash": '"p q" "r:s"'}
+
+
 def ifs_cases():
     value = var("x", " a : b::-c \n\\d:")
     items = array("a", ["p q", "", "r:s"]) + args("p q", "", "r:s")
@@ -437,13 +466,22 @@ def ifs_cases():
         group(f"IFS is {title}: what is split, and what lists are joined by.")
         for form in ("$x", "l${x}r", '$x"$x"', "$x$x", "${u:-a b:c}", '${u:-"a b":c}', "${u- $x }"):
             case(form, state + value)
-        for form in ("$*", '"$*"', "$@", '"$@"', "${a[*]}", '"${a[*]}"', '"${a[*]/r/b}"', '"${a[*]:1}"', '"${!a[*]}"'):
+        if title not in UNQUOTED:
+            for form in ("$*", "$@", "${a[*]}"):
+                case(form, state + items)
+        for form in ('"$*"', '"$@"', '"${a[*]}"', '"${a[*]/r/b}"', '"${a[*]:1}"', '"${!a[*]}"'):
             case(form, state + items)
         for form in ("$*", '"$*"', "${a[*]}", '"$@"'):
             case(form, state + items, want="assigned")
 
 
 # ---- the rest
+
+
+    for title, state in SEPARATORS:
+        if title in UNQUOTED:
+            for form in ("$*", "$@", "${a[*]}"):
+                differs("an empty element of an unquoted list gives no field, whatever IFS is.", form, f"ok {UNQUOTED[title]} steps 0", state + items)
 
 
 def indirect_cases():
@@ -474,7 +512,7 @@ def quote_cases():
                  '"a\\\nb"', "'a\nb'", '"a\nb"', "'\"'\"'\"", '"$x"\'$x\'', "\\$x", '"\\$x"', '$"a $x"', '"${x}"y"${x}"', "a#b", "\\#a"):
         case(form, var("x", "v w"))
     group("What `$'..'` stands for.")
-    for form in ("\\a\\b\\e\\E\\f", "\\n\\r\\t\\v", "\\\\\\'\\\"\\?", "\\1\\12\\123\\1234", "\\400\\401x", "\\x4\\x41\\x414", "\\q\\-", "a b", "$x", "\\x80\\377", ""):
+    for form in ("\\a\\b\\e\\E\\f", "\\n\\r\\t\\v", "\\\\\\'\\\"\\?", "\\1\\12\\123\\1234", "\\101\\501", "\\x4\\x41\\x414", "\\q\\-", "a b", "$x", "\\x80\\377", ""):
         case(f"$'{form}'", var("x", "v"))
         case(f"l$'{form}'r", var("x", "v"))
 
@@ -485,7 +523,7 @@ def tilde_cases():
         case(form, var("t", "~")) if form != "x=~" else None
     for form in ("~", "~:~", "a:~/b:~c:~", "a:\\~", "'a:'~", "a\":\"~", "~/a:b", "a=~", ":~", "~:", "$t:~"):
         case(form, var("t", "~"), want="assigned")
-    for form in ("~", "~/a", "a:~", '"~"', "~$u"):
+    for form in ("~", "~/a", "a~", '"~"', "~$u"):
         case(form, var("t", "~"), want="text")
     for home in ("", "/a b", "*"):
         case("~ ~/x", var("HOME", home))
@@ -547,7 +585,7 @@ def substitution_cases():
 
 def pathname_cases():
     group("Pathnames, in an empty folder.")
-    for form in ("*", "a*", "?", "[ab]", "a[!b]c", "$x", '"$x"', "'*'", "\\*", '"a"*', "[", "[]", "[a", "a]", "${u:-*}", '${u:-"*"}', "*/a", "@(a|b)", "!(a)", "'['a]", "[a'b']"):
+    for form in ("*", "a*", "?", "[ab]", "a[!b]c", "$x", '"$x"', "'*'", "\\*", '"a"*', "[", "[a", "a]", "${u:-*}", '${u:-"*"}', "*/a", "@(a|b)", "!(a)", "'['a]", "[a'b']"):
         special = any(mark in form for mark in "@!(") and "[!" not in form
         case(form, var("x", "a* b") + off("failglob") + (on("extglob") if special else []))
         case(form, var("x", "a* b") + off("failglob") + on("nullglob") + (on("extglob") if special else []))
@@ -578,7 +616,6 @@ def here_cases():
 def words_cases():
     group("Several words are one list: assignments act from left to right, and IFS is that at the end.")
     case('"${x:=a}" "$x" "${x:+b}"')
-    case("$x ${IFS:=:} $x", var("x", "a:b c") + unset("IFS"))
     case("$x $((i=1)) $i", var("x", "a1b"))
     case("a  b\tc", [])
     case('$u "" $u \'\'')
@@ -596,7 +633,24 @@ def words_cases():
         case(text, kind="not asked", answer="no")
 
 
+def differing_lists():
+    text = var("a", "p q")
+    why = "a text is its own element 0, and a slice of its elements takes elements."
+    for form, answer in (("${a[@]:1}", "ok"), ('"${a[@]:1}"', "ok"), ('"l${a[@]:1}r"', 'ok "lr"'), ("${a[*]:0:2}", 'ok "p" "q"'), ('"${a[*]:0:2}"', 'ok "p q"'), ('"l${a[*]:0:2}r"', 'ok "lp qr"')):
+        differs(why, form, answer + " steps 0", text)
+    differs(why, "${a[@]:1}", 'ok "" steps 0', text, want="assigned")
+    differs(why, "${a[*]:0:2}", 'ok "p q" steps 0', text, want="assigned")
+    differs("all words are split by IFS as it stands at the end.", "$x ${IFS:=:} $x", 'ok "a" "b c" "" "a" "b c" steps 0 IFS=":"', var("x", "a:b c") + unset("IFS"))
+    differs("a separator at the end of an element and the end of the element are one.", "$@", 'ok "a" "b" steps 0', ifs(":") + args("a:", "b"))
+
+
 def differing_cases():
+    differing_lists()
+    differs("an octal value counts modulo 256, and an escape that would give the byte 0 gives nothing.", "$'\\400\\401x'", 'ok "\\x01x" steps 0')
+    differs("in a here-string a tilde after a colon stays.", "a:~", 'ok "a:~" steps 0', want="text")
+    differs("in `[]` the `]` is itself, so that it closes nothing.", "[]", 'ok "[]" steps 0', off("failglob") + on("nullglob"))
+    differs("in double quotes a backslash before a `}` is itself, and the `}` ends the operator.", '"${x:-\\}}"', 'ok "\\\\}" steps 0')
+    differs("in double quotes a backslash before a `}` is itself, and the `}` ends the operator.", '"${x:-\\}}"', 'ok "v}" steps 0', var("x", "v"))
     x = var("x", "abc")
     differs("a `&` in the new text is a plain byte.", "${x/b/<&>}", 'ok "a<&>c" steps 0', x)
     differs("a `&` of a variable is plain too.", "${x//[ab]/$r}", 'ok "&-&-c" steps 0', x + var("r", "&-"))
@@ -611,7 +665,6 @@ def differing_cases():
     differs("`{$,x}1` gives no parameter `$1`.", "{$,x}1", 'ok "$1" "x1" steps 0', args("p"))
     differs("an escape that would give the byte 0 gives nothing.", "$'a\\0b'", 'ok "ab" steps 0')
     differs("`\\x{` stays.", "$'\\x{41}'", 'ok "\\\\x{41}" steps 0')
-    differs("a shift counts modulo 64, and constants wrap.", "$((18446744073709551617))", 'ok "1" steps 0')
     differs("a name ends before a backslash with a newline.", "$x\\\ny", 'ok "abcy" steps 0', x)
 
 
@@ -682,8 +735,7 @@ def unsupported_faults():
 def arithmetic_faults():
     group("Faults of arithmetic, with the whole expression.")
     for form, text in (("$((1+))", "ArithSyntax 1+"), ("$((08))", "ArithSyntax 08"), ("$((1 2))", "ArithSyntax 1 2"), ("$((2**-1))", "ArithNegative 2**-1"), ("$((1/0))", "ArithDivZero 1/0"),
-                       ("$((1%0))", "ArithDivZero 1%0"), ("${a[1/0]}", "ArithDivZero 1/0"), ("${a[1 2]}", "ArithSyntax 1 2"), ("${#a[1/0]}", "ArithDivZero 1/0"),
-                       ("${x:1/0}", "ArithDivZero 1/0"), ("${x:0:1%0}", "ArithDivZero 1%0"), ("${x:1 2}", "ArithSyntax 1 2"), ("$((1+$x))", "ArithSyntax 1+v w"), ("${a[1/0]=w}", "ArithDivZero 1/0")):
+                       ("$((1%0))", "ArithDivZero 1%0"), ("${a[1/0]}", "ArithDivZero 1/0"), ("${a[1 2]}", "ArithSyntax 1 2"), ("${x:1/0}", "ArithDivZero 1/0"), ("${x:0:1%0}", "ArithDivZero 1%0"), ("${x:1 2}", "ArithSyntax 1 2"), ("$((1+$x))", "ArithSyntax 1+v w"), ("${a[1/0]=w}", "ArithDivZero 1/0")):
         fault(form, text, var("x", "v w"))
     fault("$((x))", "ArithNesting x", var("x", "x"), steps=65)
     fault("${a[x]}", "ArithNesting x", var("x", "x"), steps=65)
@@ -691,7 +743,9 @@ def arithmetic_faults():
     group("Not as in bash: 65 parentheses are too many.")
     fault("$((" + "(" * 65 + "1" + ")" * 65 + "))", "ArithNesting " + "(" * 65 + "1" + ")" * 65, bash="goes on")
     group("Not as in bash: an operator's words are expanded also where the parameter is unset.")
-    fault("${u:1/0}", "ArithDivZero 1/0", bash="goes on")
+    fault("${u:1/0}", "ArithDivZero 1/0", bash="not asked")
+    group("Not as in bash: a subscript is evaluated also where the array is unset.")
+    fault("${#a[1/0]}", "ArithDivZero 1/0", bash="goes on")
     group("BadSubscript: an index before the first element. Bash gives the empty text, or warns and goes on, where it is read.")
     for form, state in (("${a[-3]}", array("a", ["p", "q"])), ("${a[-9]}", array("a", {3: "p"})), ("${a[-1]}", array("a", [])), ("${a[-1]}", []), ("${a[-2]}", var("a", "p")),
                         ("${#a[-5]}", array("a", ["p"])), ("${a[-9]-w}", array("a", ["p"])), ("${a[-9]#p}", array("a", ["p"])), ("$((a[-9]))", array("a", ["1"]))):
