@@ -19,9 +19,10 @@ HERE = os.path.dirname(os.path.abspath(__file__))
 ROWS = os.path.join(HERE, "expand.rows")
 
 HEAD = """\
-# Words, and what they expand to. This file is written by expand.py, which says where the answers come from: those of bash
-# 5.2 (LC_ALL=C), but for those under a comment that begins with "Not as in bash", and for the faults; these were worked
-# out from docs/expansion.md. The probe does not answer this request yet.
+# Words, and what they expand to. This file is written by expand.py, which says where the answers come from: bash 5.2
+# (LC_ALL=C), but for those under a comment that begins with "Not as in bash", the faults, arithmetic texts and subscripts
+# before they are evaluated, and the answers `run` and `no`; these were worked out by hand from docs/expansion.md. So were
+# the steps. The probe does not answer this request yet.
 #
 # expand TEXT SETTING.. : TEXT is words as a command has them, expanded from a state with HOME=/homeless, IFS blank, tab and
 # newline, no other variable, no arguments, status 0, failglob set and no other option. Each SETTING is one field:
@@ -32,7 +33,8 @@ HEAD = """\
 #   set:OPTION, clear:OPTION                failglob, nullglob, noglob or extglob
 #   answer:TEXT      what the next command substitution gives, its last newlines removed before; it costs no step here
 #   want:KIND        what TEXT is, where it is not words: `assigned`, an assigned value; `text`, a here-string; `pattern`, a
-#                    pattern; `here`, the body of a here-document; `arith`, an arithmetic text
+#                    pattern; `here`, the body of a here-document; `arith`, an arithmetic text; `subscript`, that of an
+#                    assignment, without its brackets
 #   against:TEXT     of a pattern, the text that it is matched with
 #
 # The answer is one of these:
@@ -296,7 +298,7 @@ def rows():
 TEXT = r'(?:"(?:[^"\\]|\\["\\nt]|\\x[0-9A-F]{2})*"|\d+\*"[^"]*")(?:\+(?:"(?:[^"\\]|\\["\\nt]|\\x[0-9A-F]{2})*"|\d+\*"[^"]*"))*'
 VARIABLE = rf"[A-Za-z_]\w*(?:\[\d+\])?={TEXT}"
 SET = (rf"(?:{VARIABLE}|[A-Za-z_]\w*\[\]|\d+={TEXT}|(?:unset|readonly):[A-Za-z_]\w*|status:\d+|(?:answer|against):{TEXT}"
-       r"|(?:set|clear):(?:failglob|nullglob|noglob|extglob)|want:(?:assigned|text|pattern|here|arith))")
+       r"|(?:set|clear):(?:failglob|nullglob|noglob|extglob)|want:(?:assigned|text|pattern|here|arith|subscript))")
 ROW = re.compile(rf"expand {TEXT}(?: {SET})* => (?:ok(?: yes| no|(?: {TEXT})*) steps \d+(?: {VARIABLE})*|fault {TEXT} steps \d+|run steps \d+|no)", re.S)
 
 
@@ -563,6 +565,14 @@ def arithmetic_cases():
         case(form, six, want="arith", kind="not asked", answer=f"ok {shown(text)} steps {1 if 'x))' in form else 0}")
 
 
+def subscript_cases():
+    group("Subscripts of assignments, before they are evaluated: quotes go, and nothing is split.")
+    for form, text in (("1+$x", "1+6 7"), ('"1"+\'2\'', "1+2"), (" 1 ", " 1 "), ("a[$x]", "a[6 7]"), ("${#x}", "3"), ("~", "~"), ("{1,2}", "{1,2}"), ("\\1", "1"), ("$((1+1))", "2"), ("$*", "8:9")):
+        state = var("x", "6 7") + args("8", "9") + ifs(":")
+        case(form, state, want="subscript", kind="not asked", answer=f"ok {shown(text)} steps 0")
+    fault("${u?m}", "UnsetParameter u m", want="subscript", bash="not asked")
+
+
 def substitution_cases():
     group("Command substitutions: their last newlines go, the rest is split where it is not quoted.")
     for output in ("", "a", "a b", "a\n", "a\n\n\n", "\n\na", "a\nb\n", " a ", "\n", "a \n"):
@@ -806,6 +816,7 @@ quote_cases()
 tilde_cases()
 brace_cases()
 arithmetic_cases()
+subscript_cases()
 substitution_cases()
 pathname_cases()
 here_cases()
