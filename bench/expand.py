@@ -1,11 +1,11 @@
 #!/usr/bin/env python3
 """Usage: expand.py [PROGRAM [RUNS]]
 
-Times what words of SIZE bytes expand to, as probe_times.py says: `$x`, `"${a[@]}"` of an array with 65,536 elements, plain
-text, a here-document's body with 10,000 parameters, `${x:-` in one another, and where a limit comes: braces that give too
-many words, doublings of `"$@"`, a field of 1 MiB and a byte. Ends with 1 where an answer is wrong, or where a case takes
-more than a second at SIZE. It stands on the request `expand`, whose form is at the head of tests/rows/expand.rows; the
-probe does not answer that yet, so until then every case is WRONG.
+Times what words of SIZE bytes expand to, as probe_times.py says: `$x`, `"${a[@]}"` of an array with 65,536 elements,
+plain text, a here-document's body with 10,000 parameters, `${x:-` in one another, and where a limit comes: braces that
+give too many words, doublings of `"$@"`, a field of 1 MiB and a byte. Ends with 1 where an answer is wrong, or where a
+case takes more than a second at SIZE. It stands on the request `expand`, whose form is at the head of
+tests/rows/expand.rows; the probe does not answer that yet, so until then every case is WRONG.
 """
 import sys
 
@@ -27,7 +27,8 @@ def texts(size):
     """Words that give one text or few"""
     yield "$x in one word", line(b"$x" * (size // 2), b"x=" + hexadecimal(b"a")), ok([b"a" * (size // 2)])
     yield "$x in one word, unset", line(b"$x" * (size // 2)), ok([])
-    yield "$x in double quotes", line(b'"' + b"$x" * (size // 2) + b'"', b"x=" + hexadecimal(b"b")), ok([b"b" * (size // 2)])
+    yield "$x in double quotes", line(b'"' + b"$x" * (size // 2) + b'"', b"x=" + hexadecimal(b"b")),
+            ok([b"b" * (size // 2)])
     yield "$x, a word each", line(b"$x " * (size // 3), b"x=" + hexadecimal(b"a")), ok([b"a"] * (size // 3))
     yield "plain text, a word each", line(b"ab " * (size // 3)), ok([b"ab"] * (size // 3))
     yield "plain text, one word", line(b"a" * min(size, FULL)), ok([b"a" * min(size, FULL)])
@@ -36,7 +37,8 @@ def texts(size):
     if len(text) <= FULL:
         yield "a here-document with 10,000 parameters", line(body, b"x=" + hexadecimal(b"v"), b"want:here"), ok([text])
     nested = b"${x:-" * 200 + b"a" + b"}" * 200
-    yield "200 ${x:- in one another, many times", line((nested + b" ") * (size // len(nested))), ok([b"a"] * (size // len(nested)))
+    yield "200 ${x:- in one another, many times", line((nested + b" ") * (size // len(nested))),
+            ok([b"a"] * (size // len(nested)))
 
 
 def lists(size):

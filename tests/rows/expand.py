@@ -2,10 +2,11 @@
 """Usage: expand.py [--check]
 
 Writes expand.rows, which stands beside this script: requests on the expansion of words, with their answers. Each case
-below is asked of bash 5.2 (`bash` of the path; LC_ALL=C). Where a case has no answer of its own, bash gives it. Where it
-has one, which was worked out by hand from docs/expansion.md, it says whether bash agrees: a case of `same` must have the
-answer of bash, one of `differs` must not, and one of `fault` names what bash does. With --check nothing is written: the
-rows of the file are read, and must be what this script gives. Ends with 1 where anything is not so.
+below is asked of bash 5.2 (`bash` of the path; LC_ALL=C). Where a case has no answer of its own, bash gives it. Where
+it has one, which was worked out by hand from docs/expansion.md, it says whether bash agrees: a case of `same` must have
+the answer of bash, one of `differs` must not, and one of `fault` names what bash does. A case that comes again is left
+out. With --check nothing is written: the rows of the file are read, and must be what this script gives. Ends with 1
+where anything is not so.
 
 The form of a request is told at the head of the rows.
 """
@@ -115,7 +116,8 @@ def off(option):
 
 def answers(*texts):
     """What the substitutions give, in their order: those of a word are `$(s1)`, `$(s2)` and so on"""
-    return [Setting(f"answer:{shown(text)}", f"s{at}() {{ printf %s {for_bash(text)}; }}") for at, text in enumerate(texts, 1)]
+    return [Setting(f"answer:{shown(text)}", f"s{at}() {{ printf %s {for_bash(text)}; }}") for at,
+            text in enumerate(texts, 1)]
 
 
 def ifs(text):
@@ -134,7 +136,8 @@ show() {
   for zn; do
     declare -p "$zn" >/dev/null 2>&1 || continue
     declare -p "$zn" >&3; printf '\\0' >&3
-    eval "printf '%s\\0' \\"\\${#$zn[@]}\\" >&3; for zi in \\"\\${!$zn[@]}\\"; do printf '%s\\0' \\"\\$zi\\" \\"\\${$zn[\\$zi]}\\" >&3; done"
+    eval "printf '%s\\0' \\"\\${#$zn[@]}\\" >&3"
+    eval "for zi in \\"\\${!$zn[@]}\\"; do printf '%s\\0' \\"\\$zi\\" \\"\\${$zn[\\$zi]}\\" >&3; done"
   done
 }
 """
@@ -161,7 +164,8 @@ def script(text, state, want, against, out):
     number = next((s.field.split(":")[1] for s in state if s.field.startswith("status:")), "0")
     lines = ["(", f"exec 3>{out}", "subject=" + for_bash(against or "")]
     lines += [s.lines for s in state if s.lines]
-    lines += [f"r() {{ return {number}; }}; r", f"eval {for_bash(expanding(text, want))}", "show " + " ".join(names), ")"]
+    lines += [f"r() {{ return {number}; }}; r", f"eval {for_bash(expanding(text, want))}", "show " + " ".join(names),
+            ")"]
     return "\n".join(lines) + "\n"
 
 
@@ -174,8 +178,10 @@ def ask_all(cases):
         program = os.path.join(folder, "script")
         with open(program, "wb") as file:
             file.write((SHOW + "shopt -s failglob\nHOME=/homeless\n" + "".join(scripts)).encode("latin-1"))
-        subprocess.run(["bash", "--norc", "--noprofile", "-c", f". {program}", "ebuild"], cwd=os.path.join(folder, "empty"),
-                       env={"LC_ALL": "C", "PATH": os.environ["PATH"]}, stdin=subprocess.DEVNULL, stderr=subprocess.DEVNULL,
+        subprocess.run(["bash", "--norc", "--noprofile", "-c", f". {program}", "ebuild"], cwd=os.path.join(folder,
+                "empty"),
+                       env={"LC_ALL": "C", "PATH": os.environ["PATH"]}, stdin=subprocess.DEVNULL,
+                       stderr=subprocess.DEVNULL,
                        stdout=subprocess.DEVNULL, check=False)
         return [told(os.path.join(folder, "out", str(at))) for at in range(len(cases))]
 
@@ -214,7 +220,8 @@ def changed(state, after):
     made = []
     for name in sorted(after):
         if {at: for_bash(text) for at, text in after[name].items()} != old.get(name, {}):
-            made += [f"{name}={shown(t)}" if at is None else f"{name}[{at}]={shown(t)}" for at, t in sorted(after[name].items(), key=lambda e: e[0] or 0)]
+            made += [f"{name}={shown(t)}" if at is None else f"{name}[{at}]={shown(t)}" for at,
+                    t in sorted(after[name].items(), key=lambda e: e[0] or 0)]
     return made
 
 
@@ -295,11 +302,15 @@ def rows():
 
 # ---- reading rows
 
-TEXT = r'(?:"(?:[^"\\]|\\["\\nt]|\\x[0-9A-F]{2})*"|\d+\*"[^"]*")(?:\+(?:"(?:[^"\\]|\\["\\nt]|\\x[0-9A-F]{2})*"|\d+\*"[^"]*"))*'
+BYTES = r'(?:"(?:[^"\\]|\\["\\nt]|\\x[0-9A-F]{2})*"|\d+\*"[^"]*")'
+TEXT = rf"{BYTES}(?:\+{BYTES})*"
 VARIABLE = rf"[A-Za-z_]\w*(?:\[\d+\])?={TEXT}"
-SET = (rf"(?:{VARIABLE}|[A-Za-z_]\w*\[\]|\d+={TEXT}|(?:unset|readonly):[A-Za-z_]\w*|status:\d+|(?:answer|against):{TEXT}"
-       r"|(?:set|clear):(?:failglob|nullglob|noglob|extglob)|want:(?:assigned|text|pattern|here|arith|subscript))")
-ROW = re.compile(rf"expand {TEXT}(?: {SET})* => (?:ok(?: yes| no|(?: {TEXT})*) steps \d+(?: {VARIABLE})*|fault {TEXT} steps \d+|run steps \d+|no)", re.S)
+WANTED = "want:(?:assigned|text|pattern|here|arith|subscript)"
+OPTION = "(?:set|clear):(?:failglob|nullglob|noglob|extglob)"
+SET = (rf"(?:{VARIABLE}|[A-Za-z_]\w*\[\]|\d+={TEXT}|(?:unset|readonly):[A-Za-z_]\w*|status:\d+"
+       rf"|(?:answer|against):{TEXT}|{OPTION}|{WANTED})")
+ENDED = rf"ok(?: yes| no|(?: {TEXT})*) steps \d+(?: {VARIABLE})*"
+ROW = re.compile(rf"expand {TEXT}(?: {SET})* => (?:{ENDED}|fault {TEXT} steps \d+|run steps \d+|no)", re.S)
 
 
 def main(words):
@@ -335,8 +346,10 @@ def main(words):
 
 SCALARS = (("x is unset", []), ("x is empty", var("x", "")), ("x is set", var("x", "ab*cb a")))
 
-FORMS = ("$x", "${x}", "${x:-d e}", "${x-d e}", "${x:+d e}", "${x+d e}", "${x:=d e}", "${x=d e}", "${#x}", "${x#*b}", "${x##*b}",
-         "${x%b*}", "${x%%b*}", "${x/b/- -}", "${x//b/- -}", "${x/#ab/- -}", "${x/%a/- -}", "${x//b}", "${x^}", "${x^^}", "${x^^[bc]}",
+FORMS = ("$x", "${x}", "${x:-d e}", "${x-d e}", "${x:+d e}", "${x+d e}", "${x:=d e}", "${x=d e}", "${#x}", "${x#*b}",
+        "${x##*b}",
+         "${x%b*}", "${x%%b*}", "${x/b/- -}", "${x//b/- -}", "${x/#ab/- -}", "${x/%a/- -}", "${x//b}", "${x^}",
+         "${x^^}", "${x^^[bc]}",
          "${x,}", "${x,,}", "${x:1}", "${x:1:4}", "${x: -3}", "${x: -4:2}", "${x:1:-1}")
 
 
@@ -376,13 +389,16 @@ def value_cases():
     case('"${x+$(s1)}"', full + answers("out"))
     case('"${x-$(s1)}"', full, kind="same", answer='ok "v" steps 0')
     group("Operators in operators.")
-    for form in ("${x:-${y:-z}}", '${x:-"${y:-z w}"}', '"${x:-${y:-z w}}"', "${x:-${y:-${w:-q r}}}", '"${x:+${y+n}}"', "${x:-a${y}b}",
+    for form in ("${x:-${y:-z}}", '${x:-"${y:-z w}"}', '"${x:-${y:-z w}}"', "${x:-${y:-${w:-q r}}}", '"${x:+${y+n}}"',
+            "${x:-a${y}b}",
                  '"${x:-"a b"}"', '"${x:-\'a\'}"', "${x:-'a b'}", "${x:-\\}}", "${x:-$'a\\tb'}", '${x:-a"b c"d}'):
         for state in ([], var("x", "v"), var("y", "p q")):
             case(form, state)
     nested = var("x", "foo.tar.gz") + var("p", "*.")
-    for form in ("${x#$p}", '${x#"$p"}', "${x##$p}", "${x#${p%.}}", "${x%${x#*.}}", "${x/${x%%.*}/${x##*.}}", "${x:${#p}:${#p}+1}", "${x//./${p#?}}",
-                 "${x#\"${x%.gz}\"}", "${x^^${x:0:1}}", "${x//[ot]/<$p>}", "${x/./'/'}", "${x/'.'/\"/\"}", "${x/\\./\\/}", "${x/%.gz/${p:1}xz}"):
+    for form in ("${x#$p}", '${x#"$p"}', "${x##$p}", "${x#${p%.}}", "${x%${x#*.}}", "${x/${x%%.*}/${x##*.}}",
+            "${x:${#p}:${#p}+1}", "${x//./${p#?}}",
+                 "${x#\"${x%.gz}\"}", "${x^^${x:0:1}}", "${x//[ot]/<$p>}", "${x/./'/'}", "${x/'.'/\"/\"}",
+                 "${x/\\./\\/}", "${x/%.gz/${p:1}xz}"):
         case(form, nested + on("noglob"))
         case(f'"{form}"', nested) if "'" not in form and '"' not in form and "\\" not in form else None
 
@@ -393,10 +409,13 @@ def value_cases():
 LISTS = (("a is unset", []), ("a has no element", array("a", [])), ("a has one empty element", array("a", [""])),
          ("a is sparse", array("a", {0: "p q", 3: "", 7: "rp"})), ("a is a text", var("a", "p q")))
 
-LIST_FORMS = ("${a[@]}", "${a[*]}", "${#a[@]}", "${#a[*]}", "${!a[@]}", "${!a[*]}", "${a[@]:1}", "${a[*]:0:2}", "${a[@]: -5}", "${a[@]#p}", "${a[*]%p}",
-              "${a[@]/p/z}", "${a[@]^}", "${a[*]^^}", "${a[@]:-d e}", "${a[@]-d e}", "${a[*]:-d e}", "${a[@]+d e}", "${a[*]+d e}", "${a[@]:+d e}")
+LIST_FORMS = ("${a[@]}", "${a[*]}", "${#a[@]}", "${#a[*]}", "${!a[@]}", "${!a[*]}", "${a[@]:1}", "${a[*]:0:2}",
+        "${a[@]: -5}", "${a[@]#p}", "${a[*]%p}",
+              "${a[@]/p/z}", "${a[@]^}", "${a[*]^^}", "${a[@]:-d e}", "${a[@]-d e}", "${a[*]:-d e}", "${a[@]+d e}",
+              "${a[*]+d e}", "${a[@]:+d e}")
 
-ONE_FORMS = ("$a", "${#a}", "${a[0]}", "${a[3]}", "${a[7]}", "${a[9]}", "${#a[7]}", "${a[7]#r}", "${a[9]-d e}", "${a[3]:-d e}", "${a[3]+s}", "${a[1+2*3]}",
+ONE_FORMS = ("$a", "${#a}", "${a[0]}", "${a[3]}", "${a[7]}", "${a[9]}", "${#a[7]}", "${a[7]#r}", "${a[9]-d e}",
+        "${a[3]:-d e}", "${a[3]+s}", "${a[1+2*3]}",
              "${a[9]:=d e}", "${a[3]:=d e}", "${a[9]=d}", "${a+s}")
 
 
@@ -429,8 +448,10 @@ POSITIONALS = (("there is none", []), ("there is one, empty", args("")), ("there
 
 
 def positional_cases():
-    forms = ("$1", "${1}", "${2:-d}", "${12}", "$12", "${#1}", "$#", "${#}", "${#@}", "${#*}", "$@", "$*", "${@}", "${@:2}", "${@:1:2}", "${@:0:1}", "${*:2}",
-             "${@: -1}", "${@#p}", "${*%r}", "${@/p/z}", "${@^}", "${@:-d e}", "${*:-d e}", "${@-d e}", "${@+d e}", "${*+d e}", "${!#}", "$0", "${0}")
+    forms = ("$1", "${1}", "${2:-d}", "${12}", "$12", "${#1}", "$#", "${#}", "${#@}", "${#*}", "$@", "$*", "${@}",
+            "${@:2}", "${@:1:2}", "${@:0:1}", "${*:2}",
+             "${@: -1}", "${@#p}", "${*%r}", "${@/p/z}", "${@^}", "${@:-d e}", "${*:-d e}", "${@-d e}", "${@+d e}",
+             "${*+d e}", "${!#}", "$0", "${0}")
     for title, state in POSITIONALS:
         group(f"Arguments, where {title}: unquoted, in double quotes, and assigned.")
         for form in forms:
@@ -441,7 +462,8 @@ def positional_cases():
             case(form, state, want="assigned")
     group("Lists beside other bytes and lists.")
     three = POSITIONALS[2][1]
-    for form in ('"$@$@"', '"a$@b$@c"', '$@$@', '"$@"$*', '"$@" "$@"', "''$@", '$@""', '"$u$@"', '"$@$u"', 'x"$@"y', '"$@"\'\'', '"$*$*"'):
+    for form in ('"$@$@"', '"a$@b$@c"', '$@$@', '"$@"$*', '"$@" "$@"', "''$@", '$@""', '"$u$@"', '"$@$u"', 'x"$@"y',
+            '"$@"\'\'', '"$*$*"'):
         case(form, three)
         case(form)
     group("The status.")
@@ -452,12 +474,15 @@ def positional_cases():
 # ---- IFS
 
 
-SEPARATORS = (("blank, tab and newline", []), ("unset", unset("IFS")), ("empty", ifs("")), ("a colon", ifs(":")), ("a colon and a blank", ifs(": ")),
-              ("a blank and a colon", ifs(" :")), ("two bytes that are no blanks", ifs("-:")), ("a letter", ifs("b")), ("a newline", ifs("\n")), ("a backslash", ifs("\\")))
+SEPARATORS = (("blank, tab and newline", []), ("unset", unset("IFS")), ("empty", ifs("")), ("a colon", ifs(":")),
+        ("a colon and a blank", ifs(": ")),
+              ("a blank and a colon", ifs(" :")), ("two bytes that are no blanks", ifs("-:")), ("a letter", ifs("b")),
+              ("a newline", ifs("\n")), ("a backslash", ifs("\\")))
 
 
 # the fields of an unquoted list `p q`, the empty text, `r:s`, where the first byte of IFS is no blank
-UNQUOTED = {"a colon": '"p q" "r" "s"', "a colon and a blank": '"p" "q" "r" "s"', "two bytes that are no blanks": '"p q" "r" "s"',
+UNQUOTED = {"a colon": '"p q" "r" "s"', "a colon and a blank": '"p" "q" "r" "s"',
+        "two bytes that are no blanks": '"p q" "r" "s"',
             "a letter": '"p q" "r:s"', "a backslash": '"p q" "r:s"'}
 
 
@@ -483,7 +508,8 @@ def ifs_cases():
     for title, state in SEPARATORS:
         if title in UNQUOTED:
             for form in ("$*", "$@", "${a[*]}"):
-                differs("an empty element of an unquoted list gives no field, whatever IFS is.", form, f"ok {UNQUOTED[title]} steps 0", state + items)
+                differs("an empty element of an unquoted list gives no field, whatever IFS is.", form,
+                        f"ok {UNQUOTED[title]} steps 0", state + items)
 
 
 def indirect_cases():
@@ -510,18 +536,22 @@ def indirect_cases():
 
 def quote_cases():
     group("Quotes.")
-    for form in ("a'b c'd", '"a b"c', "a\\ b", "''", '""', "''\"\"", "a''", "'' ''", "\"\\a\\$\\`\\\"\\\\\"", "'\\a'", "\\a\\\\", '"$"', "$", "a$", '"a$ b"', "a\\\nb",
-                 '"a\\\nb"', "'a\nb'", '"a\nb"', "'\"'\"'\"", '"$x"\'$x\'', "\\$x", '"\\$x"', '$"a $x"', '"${x}"y"${x}"', "a#b", "\\#a"):
+    for form in ("a'b c'd", '"a b"c', "a\\ b", "''", '""', "''\"\"", "a''", "'' ''", "\"\\a\\$\\`\\\"\\\\\"", "'\\a'",
+            "\\a\\\\", '"$"', "$", "a$", '"a$ b"', "a\\\nb",
+                 '"a\\\nb"', "'a\nb'", '"a\nb"', "'\"'\"'\"", '"$x"\'$x\'', "\\$x", '"\\$x"', '$"a $x"',
+                 '"${x}"y"${x}"', "a#b", "\\#a"):
         case(form, var("x", "v w"))
     group("What `$'..'` stands for.")
-    for form in ("\\a\\b\\e\\E\\f", "\\n\\r\\t\\v", "\\\\\\'\\\"\\?", "\\1\\12\\123\\1234", "\\101\\501", "\\x4\\x41\\x414", "\\q\\-", "a b", "$x", "\\x80\\377", ""):
+    for form in ("\\a\\b\\e\\E\\f", "\\n\\r\\t\\v", "\\\\\\'\\\"\\?", "\\1\\12\\123\\1234", "\\101\\501",
+            "\\x4\\x41\\x414", "\\q\\-", "a b", "$x", "\\x80\\377", ""):
         case(f"$'{form}'", var("x", "v"))
         case(f"l$'{form}'r", var("x", "v"))
 
 
 def tilde_cases():
     group("Tildes: in words, in assigned values, in the words of operators, in here-strings.")
-    for form in ("~", "~/", "~/a", "~a~", "a~", '"~"', "'~'", "\\~", '~"/a"', "a:~", "x=~", "${u:-~}", "${u-~/a}", "${u:-a~}", '"${u:-~}"', "${u:=~}", "~$u", "$t", "~/$t"):
+    for form in ("~", "~/", "~/a", "~a~", "a~", '"~"', "'~'", "\\~", '~"/a"', "a:~", "x=~", "${u:-~}", "${u-~/a}",
+            "${u:-a~}", '"${u:-~}"', "${u:=~}", "~$u", "$t", "~/$t"):
         case(form, var("t", "~")) if form != "x=~" else None
     for form in ("~", "~:~", "a:~/b:~c:~", "a:\\~", "'a:'~", "a\":\"~", "~/a:b", "a=~", ":~", "~:", "$t:~"):
         case(form, var("t", "~"), want="assigned")
@@ -534,8 +564,10 @@ def tilde_cases():
 
 def brace_cases():
     group("Braces, before all else.")
-    for form in ("{a,b}", "x{a,b}y", "{a,b}{c,d}", "{a,{b,c}}", "{1..4}", "{4..1..2}", "{a..e..2}", "{01..10..4}", "{-2..2}", "{a}", "{}", "{a,}", '{"a,b",c}', "\\{a,b}",
-                 "{$x,$y}", '{"$x",y}', "${x}{1,2}", '"${x}"{1,2}', "{a,b}$x", "$x{,}", "{'a b',c}", "{a,b", "a,b}", "{~,x}", "{~,x}/y", "x{a,b}{1..2}z", "$((1+1)){a,b}"):
+    for form in ("{a,b}", "x{a,b}y", "{a,b}{c,d}", "{a,{b,c}}", "{1..4}", "{4..1..2}", "{a..e..2}", "{01..10..4}",
+            "{-2..2}", "{a}", "{}", "{a,}", '{"a,b",c}', "\\{a,b}",
+                 "{$x,$y}", '{"$x",y}', "${x}{1,2}", '"${x}"{1,2}', "{a,b}$x", "$x{,}", "{'a b',c}", "{a,b", "a,b}",
+                 "{~,x}", "{~,x}/y", "x{a,b}{1..2}z", "$((1+1)){a,b}"):
         case(form, var("x", "p q") + var("y", "r"))
     case("{a,b}", want="assigned")
     case("{1..3}", want="text")
@@ -548,8 +580,10 @@ def brace_cases():
 def arithmetic_cases():
     group("Arithmetic. A variable that is evaluated costs a step.")
     six = var("x", "6")
-    for form, steps in (("1+2*3", 0), ("x+1", 1), ("$x+1", 0), ("${x}0", 0), ("x*x", 2), ("(x)", 1), ("x=7", 0), ("x+=2", 1), ("x++", 1), ("--x", 1), ("u", 1), ("", 0), ("x>5?1:2", 1),
-                        ("1,2", 0), ("-x", 1), ("${#x}+1", 0), ("${u:-4}*2", 0), ("16#ff", 0), ("0x1F", 0), ("010", 0), ('"2"+1', 0), (" 1 ", 0)):
+    for form, steps in (("1+2*3", 0), ("x+1", 1), ("$x+1", 0), ("${x}0", 0), ("x*x", 2), ("(x)", 1), ("x=7", 0),
+            ("x+=2", 1), ("x++", 1), ("--x", 1), ("u", 1), ("", 0), ("x>5?1:2", 1),
+                        ("1,2", 0), ("-x", 1), ("${#x}+1", 0), ("${u:-4}*2", 0), ("16#ff", 0), ("0x1F", 0), ("010", 0),
+                        ('"2"+1', 0), (" 1 ", 0)):
         case(f"$(({form}))", six, steps=steps)
         case(f'"$(({form}))"', six, steps=steps)
     case("$((x))", ifs("1") + var("x", "312"), steps=1)
@@ -561,13 +595,15 @@ def arithmetic_cases():
     case('"${x:y}" "${x:y-1:y}" "${x:$y}"', var("x", "abcdef") + var("y", "2"), steps=3)
     case("${x:y=2} $y", var("x", "abcdef"))
     group("Arithmetic texts, before they are evaluated.")
-    for form, text in (("1+$x", "1+6"), ("$((x))*2", "6*2"), ("${x:-2} + ${u:-2}", "6 + 2"), ("${#x}", "1"), ("(1+$x)", "(1+6)")):
+    for form, text in (("1+$x", "1+6"), ("$((x))*2", "6*2"), ("${x:-2} + ${u:-2}", "6 + 2"), ("${#x}", "1"), ("(1+$x)",
+            "(1+6)")):
         case(form, six, want="arith", kind="not asked", answer=f"ok {shown(text)} steps {1 if 'x))' in form else 0}")
 
 
 def subscript_cases():
     group("Subscripts of assignments, before they are evaluated: quotes go, and nothing is split.")
-    for form, text in (("1+$x", "1+6 7"), ('"1"+\'2\'', "1+2"), (" 1 ", " 1 "), ("a[$x]", "a[6 7]"), ("${#x}", "3"), ("~", "~"), ("{1,2}", "{1,2}"), ("\\1", "1"), ("$((1+1))", "2"), ("$*", "8:9")):
+    for form, text in (("1+$x", "1+6 7"), ('"1"+\'2\'', "1+2"), (" 1 ", " 1 "), ("a[$x]", "a[6 7]"), ("${#x}", "3"),
+            ("~", "~"), ("{1,2}", "{1,2}"), ("\\1", "1"), ("$((1+1))", "2"), ("$*", "8:9")):
         state = var("x", "6 7") + args("8", "9") + ifs(":")
         case(form, state, want="subscript", kind="not asked", answer=f"ok {shown(text)} steps 0")
     fault("${u?m}", "UnsetParameter u m", want="subscript", bash="not asked")
@@ -587,7 +623,8 @@ def substitution_cases():
     case("$(s1)", answers("~ $x {a,b}"))
     case('"$(:)"$x', var("x", "p q") + answers(""), kind="bash")
     group("A substitution that has no answer is asked for, from left to right; what stands before it is expanded.")
-    for form in ("$(a)", '"$(a)"', "x`a`y", "${u:-$(a)}", "$(( $(a) + 1 ))", "${x:$(a)}", "${a[$(a)]}", "@($(a))", "{$(a),b}"):
+    for form in ("$(a)", '"$(a)"', "x`a`y", "${u:-$(a)}", "$(( $(a) + 1 ))", "${x:$(a)}", "${a[$(a)]}", "@($(a))",
+            "{$(a),b}"):
         case(form, kind="not asked", answer="run steps 0")
     case("$((x))$(a)", var("x", "1"), kind="not asked", answer="run steps 1")
     case("$(s1)$(s2)", answers("a"), kind="not asked", answer="run steps 0")
@@ -595,7 +632,8 @@ def substitution_cases():
 
 def pathname_cases():
     group("Pathnames, in an empty folder.")
-    for form in ("*", "a*", "?", "[ab]", "a[!b]c", "$x", '"$x"', "'*'", "\\*", '"a"*', "[", "[a", "a]", "${u:-*}", '${u:-"*"}', "*/a", "@(a|b)", "!(a)", "'['a]", "[a'b']"):
+    for form in ("*", "a*", "?", "[ab]", "a[!b]c", "$x", '"$x"', "'*'", "\\*", '"a"*', "[", "[a", "a]", "${u:-*}",
+            '${u:-"*"}', "*/a", "@(a|b)", "!(a)", "'['a]", "[a'b']"):
         special = any(mark in form for mark in "@!(") and "[!" not in form
         case(form, var("x", "a* b") + off("failglob") + (on("extglob") if special else []))
         case(form, var("x", "a* b") + off("failglob") + on("nullglob") + (on("extglob") if special else []))
@@ -606,18 +644,21 @@ def pathname_cases():
     case("[", [])
     case("'*' \"?\" \\[a]", [])
     group("Groups in patterns of operators.")
-    for form in ("${x#@(a|b)}", "${x##+(a|b)}", "${x%?(c)}", "${x%%*(c)}", "${x/!(z)/-}", "${x//+([ab])/-}", "${x/@($p)/-}", "${x^^@(a|b)}"):
+    for form in ("${x#@(a|b)}", "${x##+(a|b)}", "${x%?(c)}", "${x%%*(c)}", "${x/!(z)/-}", "${x//+([ab])/-}",
+            "${x/@($p)/-}", "${x^^@(a|b)}"):
         case(form, var("x", "abacc") + var("p", "b|ac") + on("extglob"))
 
 
 def here_cases():
     group("Here-documents: no quotes, no splitting; a backslash before `$`, a backquote and a backslash.")
-    for form in ("a b\n", "$x\n", "'$x' \"$x\"\n", "\\$x \\\\ \\a \\\"\n", "a\\\nb\n", "${x:-d}${u:-\"d e\"}\n", "${u:-'d'}\n", "$@|$*\n", "${a[@]}|${a[*]}\n", "~ {a,b} *\n",
+    for form in ("a b\n", "$x\n", "'$x' \"$x\"\n", "\\$x \\\\ \\a \\\"\n", "a\\\nb\n", "${x:-d}${u:-\"d e\"}\n",
+            "${u:-'d'}\n", "$@|$*\n", "${a[@]}|${a[*]}\n", "~ {a,b} *\n",
                  "$((1+2)) `s1`\n", "$(s1)\n", "${x#p}\n", "$\n", "\n", "", "$'a' $\"b\"\n", "${#x}${x/ /\\/}\n"):
         state = var("x", "p  q") + args("1 2", "3") + array("a", ["r", "s t"])
         case(form, state + (answers("out\n\n") if "s1" in form else []), want="here")
     group("Here-strings.")
-    for form in ("$x", '"$x"', "a$x", "$@", "$*", '"$*"', "${a[@]}", '"${a[*]}"', "*", "${u:-a  b}", "''", "$u", "a'b  c'"):
+    for form in ("$x", '"$x"', "a$x", "$@", "$*", '"$*"', "${a[@]}", '"${a[*]}"', "*", "${u:-a  b}", "''", "$u",
+            "a'b  c'"):
         state = var("x", " p  q ") + args("1 2", "3") + array("a", ["r", "s t"])
         case(form, state, want="text")
         case(form, state + ifs(":"), want="text")
@@ -646,21 +687,28 @@ def words_cases():
 def differing_lists():
     text = var("a", "p q")
     why = "a text is its own element 0, and a slice of its elements takes elements."
-    for form, answer in (("${a[@]:1}", "ok"), ('"${a[@]:1}"', "ok"), ('"l${a[@]:1}r"', 'ok "lr"'), ("${a[*]:0:2}", 'ok "p" "q"'), ('"${a[*]:0:2}"', 'ok "p q"'), ('"l${a[*]:0:2}r"', 'ok "lp qr"')):
+    for form, answer in (("${a[@]:1}", "ok"), ('"${a[@]:1}"', "ok"), ('"l${a[@]:1}r"', 'ok "lr"'), ("${a[*]:0:2}",
+            'ok "p" "q"'), ('"${a[*]:0:2}"', 'ok "p q"'), ('"l${a[*]:0:2}r"', 'ok "lp qr"')):
         differs(why, form, answer + " steps 0", text)
     differs(why, "${a[@]:1}", 'ok "" steps 0', text, want="assigned")
     differs(why, "${a[*]:0:2}", 'ok "p q" steps 0', text, want="assigned")
-    differs("all words are split by IFS as it stands at the end.", "$x ${IFS:=:} $x", 'ok "a" "b c" "" "a" "b c" steps 0 IFS=":"', var("x", "a:b c") + unset("IFS"))
-    differs("a separator at the end of an element and the end of the element are one.", "$@", 'ok "a" "b" steps 0', ifs(":") + args("a:", "b"))
+    differs("all words are split by IFS as it stands at the end.", "$x ${IFS:=:} $x",
+            'ok "a" "b c" "" "a" "b c" steps 0 IFS=":"', var("x", "a:b c") + unset("IFS"))
+    differs("a separator at the end of an element and the end of the element are one.", "$@", 'ok "a" "b" steps 0',
+            ifs(":") + args("a:", "b"))
 
 
 def differing_cases():
     differing_lists()
-    differs("an octal value counts modulo 256, and an escape that would give the byte 0 gives nothing.", "$'\\400\\401x'", 'ok "\\x01x" steps 0')
+    differs("an octal value counts modulo 256, and an escape that would give the byte 0 gives nothing.",
+            "$'\\400\\401x'", 'ok "\\x01x" steps 0')
     differs("in a here-string a tilde after a colon stays.", "a:~", 'ok "a:~" steps 0', want="text")
-    differs("in `[]` the `]` is itself, so that it closes nothing.", "[]", 'ok "[]" steps 0', off("failglob") + on("nullglob"))
-    differs("in double quotes a backslash before a `}` is itself, and the `}` ends the operator.", '"${x:-\\}}"', 'ok "\\\\}" steps 0')
-    differs("in double quotes a backslash before a `}` is itself, and the `}` ends the operator.", '"${x:-\\}}"', 'ok "v}" steps 0', var("x", "v"))
+    differs("in `[]` the `]` is itself, so that it closes nothing.", "[]", 'ok "[]" steps 0',
+            off("failglob") + on("nullglob"))
+    differs("in double quotes a backslash before a `}` is itself, and the `}` ends the operator.", '"${x:-\\}}"',
+            'ok "\\\\}" steps 0')
+    differs("in double quotes a backslash before a `}` is itself, and the `}` ends the operator.", '"${x:-\\}}"',
+            'ok "v}" steps 0', var("x", "v"))
     x = var("x", "abc")
     differs("a `&` in the new text is a plain byte.", "${x/b/<&>}", 'ok "a<&>c" steps 0', x)
     differs("a `&` of a variable is plain too.", "${x//[ab]/$r}", 'ok "&-&-c" steps 0', x + var("r", "&-"))
@@ -683,7 +731,8 @@ def differing_cases():
 
 def substitution_faults():
     group("BadSubstitution: `=` on what takes no value.")
-    for form, name in (("${1=w}", "1"), ("${1:=w}", "1"), ("${10=w}", "10"), ("${@=w}", "@"), ("${*:=w}", "*"), ("${@:=w}", "@"), ("${a[@]=w}", "a"), ("${a[*]:=w}", "a")):
+    for form, name in (("${1=w}", "1"), ("${1:=w}", "1"), ("${10=w}", "10"), ("${@=w}", "@"), ("${*:=w}", "*"),
+            ("${@:=w}", "@"), ("${a[@]=w}", "a"), ("${a[*]:=w}", "a")):
         fault(form, f"BadSubstitution {name}")
     group("Not as in bash: it is BadSubstitution also where there is a value.")
     fault("${1=w}", "BadSubstitution 1", args("v"), bash="goes on")
@@ -715,8 +764,10 @@ def substitution_faults():
 
 def unset_faults():
     group("UnsetParameter: the name, and the word's text as words with one blank between two, or `-`.")
-    for form, text in (("${u?no}", "u no"), ("${u:?no}", "u no"), ("${u?}", "u -"), ("${u:?a  b}", "u a b"), ("${u?$x}", "u v w"), ('${u?"a b"}', "u a b"), ("${1?m}", "1 m"),
-                       ("${e:?m}", "e m"), ("${@?m}", "@ m"), ("${*:?m}", "* m"), ("${a[3]?m}", "a m"), ("${a[@]?m}", "a m"), ('"${u?\'q\'}"', "u 'q'"), ("${u?~}", "u /homeless"),
+    for form, text in (("${u?no}", "u no"), ("${u:?no}", "u no"), ("${u?}", "u -"), ("${u:?a  b}", "u a b"),
+            ("${u?$x}", "u v w"), ('${u?"a b"}', "u a b"), ("${1?m}", "1 m"),
+                       ("${e:?m}", "e m"), ("${@?m}", "@ m"), ("${*:?m}", "* m"), ("${a[3]?m}", "a m"), ("${a[@]?m}",
+                       "a m"), ('"${u?\'q\'}"', "u 'q'"), ("${u?~}", "u /homeless"),
                        ("${u?$((1+2))}", "u 3"), ("${x:+${u?in}}", "u in")):
         fault(form, f"UnsetParameter {text}", var("x", "v w") + var("e", ""))
     fault("${!x?m}", "UnsetParameter x m", var("x", "u"))
@@ -727,25 +778,33 @@ def unset_faults():
 
 def unsupported_faults():
     group("Unsupported, which bash has: the parameters of processes, transformations, names by a prefix.")
-    for form, what in (("$$", "$$"), ("${$}", "$$"), ('"$$"', "$$"), ("$!", "$!"), ("$-", "$-"), ("${#-}", "$-"), ("${x@Q}", "transformation"), ("${x@U}", "transformation"),
-                       ("${a[@]@Q}", "transformation"), ("${!x@}", "prefix names"), ("${!x*}", "prefix names"), ("$'\\u41'", "quoting"), ("$'\\U41'", "quoting"), ("$'\\cA'", "quoting"),
-                       ("$RANDOM", "RANDOM"), ("$SECONDS", "SECONDS"), ("$LINENO", "LINENO"), ("${#RANDOM}", "RANDOM"), ("${RANDOM+x}", "RANDOM"), ("${BASH_VERSION:-x}", "BASH_VERSION"),
-                       ("${BASH_VERSINFO[0]}", "BASH_VERSINFO"), ("${BASH_VERSINFO[@]}", "BASH_VERSINFO"), ("$BASH_SOURCE", "BASH_SOURCE"), ("${PIPESTATUS[0]}", "PIPESTATUS"),
+    for form, what in (("$$", "$$"), ("${$}", "$$"), ('"$$"', "$$"), ("$!", "$!"), ("$-", "$-"), ("${#-}", "$-"),
+            ("${x@Q}", "transformation"), ("${x@U}", "transformation"),
+                       ("${a[@]@Q}", "transformation"), ("${!x@}", "prefix names"), ("${!x*}", "prefix names"),
+                       ("$'\\u41'", "quoting"), ("$'\\U41'", "quoting"), ("$'\\cA'", "quoting"),
+                       ("$RANDOM", "RANDOM"), ("$SECONDS", "SECONDS"), ("$LINENO", "LINENO"), ("${#RANDOM}", "RANDOM"),
+                       ("${RANDOM+x}", "RANDOM"), ("${BASH_VERSION:-x}", "BASH_VERSION"),
+                       ("${BASH_VERSINFO[0]}", "BASH_VERSINFO"), ("${BASH_VERSINFO[@]}", "BASH_VERSINFO"),
+                       ("$BASH_SOURCE", "BASH_SOURCE"), ("${PIPESTATUS[0]}", "PIPESTATUS"),
                        ("$((RANDOM))", "RANDOM"), ("<(:)", "process substitution"), (">(:)", "process substitution")):
-        fault(form, f"Unsupported {what}", var("x", "v"), bash="not asked")
+        fault(form, f"Unsupported {what}", var("x", "v"), bash="goes on")
     fault("${!x}", "Unsupported RANDOM", var("x", "RANDOM"), bash="goes on")
     fault("$RANDOM", "Unsupported RANDOM", want="assigned", bash="goes on")
     group("What stands before the refused form is expanded first.")
     fault("${a[1/0]@Q}", "ArithDivZero 1/0")
     fault("${BASH_VERSINFO[1/0]}", "ArithDivZero 1/0")
     fault("${u?m}$$", "UnsetParameter u m")
-    fault("$((x))$$", "Unsupported $$", var("x", "1"), steps=1, bash="not asked")
+    fault("$((x))$$", "Unsupported $$", var("x", "1"), steps=1, bash="goes on")
 
 
 def arithmetic_faults():
     group("Faults of arithmetic, with the whole expression.")
-    for form, text in (("$((1+))", "ArithSyntax 1+"), ("$((08))", "ArithSyntax 08"), ("$((1 2))", "ArithSyntax 1 2"), ("$((2**-1))", "ArithNegative 2**-1"), ("$((1/0))", "ArithDivZero 1/0"),
-                       ("$((1%0))", "ArithDivZero 1%0"), ("${a[1/0]}", "ArithDivZero 1/0"), ("${a[1 2]}", "ArithSyntax 1 2"), ("${x:1/0}", "ArithDivZero 1/0"), ("${x:0:1%0}", "ArithDivZero 1%0"), ("${x:1 2}", "ArithSyntax 1 2"), ("$((1+$x))", "ArithSyntax 1+v w"), ("${a[1/0]=w}", "ArithDivZero 1/0")):
+    for form, text in (("$((1+))", "ArithSyntax 1+"), ("$((08))", "ArithSyntax 08"), ("$((1 2))", "ArithSyntax 1 2"),
+            ("$((2**-1))", "ArithNegative 2**-1"), ("$((1/0))", "ArithDivZero 1/0"),
+                       ("$((1%0))", "ArithDivZero 1%0"), ("${a[1/0]}", "ArithDivZero 1/0"), ("${a[1 2]}",
+                       "ArithSyntax 1 2"), ("${x:1/0}", "ArithDivZero 1/0"), ("${x:0:1%0}", "ArithDivZero 1%0"),
+                       ("${x:1 2}", "ArithSyntax 1 2"), ("$((1+$x))", "ArithSyntax 1+v w"), ("${a[1/0]=w}",
+                       "ArithDivZero 1/0")):
         fault(form, text, var("x", "v w"))
     fault("$((x))", "ArithNesting x", var("x", "x"), steps=65)
     fault("${a[x]}", "ArithNesting x", var("x", "x"), steps=65)
@@ -753,15 +812,19 @@ def arithmetic_faults():
     group("Not as in bash: 65 parentheses are too many.")
     fault("$((" + "(" * 65 + "1" + ")" * 65 + "))", "ArithNesting " + "(" * 65 + "1" + ")" * 65, bash="goes on")
     group("Not as in bash: an operator's words are expanded also where the parameter is unset.")
-    fault("${u:1/0}", "ArithDivZero 1/0", bash="not asked")
+    fault("${u:1/0}", "ArithDivZero 1/0", bash="goes on")
     group("Not as in bash: a subscript is evaluated also where the array is unset.")
     fault("${#a[1/0]}", "ArithDivZero 1/0", bash="goes on")
-    group("BadSubscript: an index before the first element. Bash gives the empty text, or warns and goes on, where it is read.")
-    for form, state in (("${a[-3]}", array("a", ["p", "q"])), ("${a[-9]}", array("a", {3: "p"})), ("${a[-1]}", array("a", [])), ("${a[-1]}", []), ("${a[-2]}", var("a", "p")),
-                        ("${#a[-5]}", array("a", ["p"])), ("${a[-9]-w}", array("a", ["p"])), ("${a[-9]#p}", array("a", ["p"])), ("$((a[-9]))", array("a", ["1"]))):
-        fault(form, "BadSubscript a", state, bash="not asked")
-    fault("${a[-9]=w}", "BadSubscript a", array("a", ["p"]), bash="not asked")
-    fault("${!v}", "BadSubscript a", array("a", ["p"]) + var("v", "a[-7]"), bash="not asked")
+    group("BadSubscript: an index before the first element. Bash goes on where it is read, with a message.")
+    for form, state in (("${a[-3]}", array("a", ["p", "q"])), ("${a[-9]}", array("a", {3: "p"})), ("${a[-1]}",
+            array("a", [])), ("${a[-1]}", []), ("${a[-2]}", var("a", "p")),
+                        ("${a[-9]-w}", array("a", ["p"])), ("${a[-9]#p}", array("a",
+                                ["p"])), ("$((a[-9]))", array("a", ["1"]))):
+        fault(form, "BadSubscript a", state, bash="goes on")
+    fault("${!v}", "BadSubscript a", array("a", ["p"]) + var("v", "a[-7]"), bash="goes on")
+    group("BadSubscript, where bash refuses too.")
+    fault("${#a[-5]}", "BadSubscript a", array("a", ["p"]))
+    fault("${a[-9]=w}", "BadSubscript a", array("a", ["p"]))
 
 
 def other_faults():
@@ -771,7 +834,8 @@ def other_faults():
     fault("${!v:=w}", "Readonly r", var("v", "r") + var("r", "") + readonly("r"))
     fault("${r=w}", "Readonly r", readonly("r"))
     group("GlobFailed, with the field after quote removal.")
-    for form, text in (("*", "*"), ("a*", "a*"), ("?", "?"), ("[ab]", "[ab]"), ("$x", "p*"), ("${u:-*}", "*"), ('"b"*', "b*"), ('x"*"*', "x**"), ("a b *", "*"), ("*/b", "*/b"),
+    for form, text in (("*", "*"), ("a*", "a*"), ("?", "?"), ("[ab]", "[ab]"), ("$x", "p*"), ("${u:-*}", "*"), ('"b"*',
+            "b*"), ('x"*"*', "x**"), ("a b *", "*"), ("*/b", "*/b"),
                        ("{a,b*}", "b*"), ("${a[@]}", "q?"), ("~/*", "/homeless/*"), ("\\**", "**"), ("*'a b'", "*a b")):
         fault(form, f"GlobFailed {text}", var("x", "p* q*") + array("a", ["p", "q?"]))
     fault("@(a|b)", "GlobFailed @(a|b)", on("extglob"))
