@@ -221,7 +221,7 @@ def changed(state, after):
     for name in sorted(after):
         if {at: for_bash(text) for at, text in after[name].items()} != old.get(name, {}):
             made += [f"{name}={shown(t)}" if at is None else f"{name}[{at}]={shown(t)}" for at,
-                    t in sorted(after[name].items(), key=lambda e: e[0] or 0)]
+                     t in sorted(after[name].items(), key=lambda e: e[0] or 0)]
     return made
 
 
@@ -347,10 +347,9 @@ def main(words):
 SCALARS = (("x is unset", []), ("x is empty", var("x", "")), ("x is set", var("x", "ab*cb a")))
 
 FORMS = ("$x", "${x}", "${x:-d e}", "${x-d e}", "${x:+d e}", "${x+d e}", "${x:=d e}", "${x=d e}", "${#x}", "${x#*b}",
-        "${x##*b}",
-         "${x%b*}", "${x%%b*}", "${x/b/- -}", "${x//b/- -}", "${x/#ab/- -}", "${x/%a/- -}", "${x//b}", "${x^}",
-         "${x^^}", "${x^^[bc]}",
-         "${x,}", "${x,,}", "${x:1}", "${x:1:4}", "${x: -3}", "${x: -4:2}", "${x:1:-1}")
+         "${x##*b}", "${x%b*}", "${x%%b*}", "${x/b/- -}", "${x//b/- -}", "${x/#ab/- -}", "${x/%a/- -}", "${x//b}",
+         "${x^}", "${x^^}", "${x^^[bc]}", "${x,}", "${x,,}", "${x:1}", "${x:1:4}", "${x: -3}", "${x: -4:2}",
+         "${x:1:-1}")
 
 
 def places(form, state):
@@ -390,15 +389,14 @@ def value_cases():
     case('"${x-$(s1)}"', full, kind="same", answer='ok "v" steps 0')
     group("Operators in operators.")
     for form in ("${x:-${y:-z}}", '${x:-"${y:-z w}"}', '"${x:-${y:-z w}}"', "${x:-${y:-${w:-q r}}}", '"${x:+${y+n}}"',
-            "${x:-a${y}b}",
-                 '"${x:-"a b"}"', '"${x:-\'a\'}"', "${x:-'a b'}", "${x:-\\}}", "${x:-$'a\\tb'}", '${x:-a"b c"d}'):
+                 "${x:-a${y}b}", '"${x:-"a b"}"', '"${x:-\'a\'}"', "${x:-'a b'}", "${x:-\\}}", "${x:-$'a\\tb'}",
+                 '${x:-a"b c"d}'):
         for state in ([], var("x", "v"), var("y", "p q")):
             case(form, state)
     nested = var("x", "foo.tar.gz") + var("p", "*.")
     for form in ("${x#$p}", '${x#"$p"}', "${x##$p}", "${x#${p%.}}", "${x%${x#*.}}", "${x/${x%%.*}/${x##*.}}",
-            "${x:${#p}:${#p}+1}", "${x//./${p#?}}",
-                 "${x#\"${x%.gz}\"}", "${x^^${x:0:1}}", "${x//[ot]/<$p>}", "${x/./'/'}", "${x/'.'/\"/\"}",
-                 "${x/\\./\\/}", "${x/%.gz/${p:1}xz}"):
+                 "${x:${#p}:${#p}+1}", "${x//./${p#?}}", "${x#\"${x%.gz}\"}", "${x^^${x:0:1}}", "${x//[ot]/<$p>}",
+                 "${x/./'/'}", "${x/'.'/\"/\"}", "${x/\\./\\/}", "${x/%.gz/${p:1}xz}"):
         case(form, nested + on("noglob"))
         case(f'"{form}"', nested) if "'" not in form and '"' not in form and "\\" not in form else None
 
@@ -410,13 +408,11 @@ LISTS = (("a is unset", []), ("a has no element", array("a", [])), ("a has one e
          ("a is sparse", array("a", {0: "p q", 3: "", 7: "rp"})), ("a is a text", var("a", "p q")))
 
 LIST_FORMS = ("${a[@]}", "${a[*]}", "${#a[@]}", "${#a[*]}", "${!a[@]}", "${!a[*]}", "${a[@]:1}", "${a[*]:0:2}",
-        "${a[@]: -5}", "${a[@]#p}", "${a[*]%p}",
-              "${a[@]/p/z}", "${a[@]^}", "${a[*]^^}", "${a[@]:-d e}", "${a[@]-d e}", "${a[*]:-d e}", "${a[@]+d e}",
-              "${a[*]+d e}", "${a[@]:+d e}")
+              "${a[@]: -5}", "${a[@]#p}", "${a[*]%p}", "${a[@]/p/z}", "${a[@]^}", "${a[*]^^}", "${a[@]:-d e}",
+              "${a[@]-d e}", "${a[*]:-d e}", "${a[@]+d e}", "${a[*]+d e}", "${a[@]:+d e}")
 
 ONE_FORMS = ("$a", "${#a}", "${a[0]}", "${a[3]}", "${a[7]}", "${a[9]}", "${#a[7]}", "${a[7]#r}", "${a[9]-d e}",
-        "${a[3]:-d e}", "${a[3]+s}", "${a[1+2*3]}",
-             "${a[9]:=d e}", "${a[3]:=d e}", "${a[9]=d}", "${a+s}")
+             "${a[3]:-d e}", "${a[3]+s}", "${a[1+2*3]}", "${a[9]:=d e}", "${a[3]:=d e}", "${a[9]=d}", "${a+s}")
 
 
 def list_cases():
@@ -463,7 +459,7 @@ def positional_cases():
     group("Lists beside other bytes and lists.")
     three = POSITIONALS[2][1]
     for form in ('"$@$@"', '"a$@b$@c"', '$@$@', '"$@"$*', '"$@" "$@"', "''$@", '$@""', '"$u$@"', '"$@$u"', 'x"$@"y',
-            '"$@"\'\'', '"$*$*"'):
+                 '"$@"\'\'', '"$*$*"'):
         case(form, three)
         case(form)
     group("The status.")
@@ -475,15 +471,14 @@ def positional_cases():
 
 
 SEPARATORS = (("blank, tab and newline", []), ("unset", unset("IFS")), ("empty", ifs("")), ("a colon", ifs(":")),
-        ("a colon and a blank", ifs(": ")),
-              ("a blank and a colon", ifs(" :")), ("two bytes that are no blanks", ifs("-:")), ("a letter", ifs("b")),
-              ("a newline", ifs("\n")), ("a backslash", ifs("\\")))
+              ("a colon and a blank", ifs(": ")), ("a blank and a colon", ifs(" :")),
+              ("two bytes that are no blanks", ifs("-:")), ("a letter", ifs("b")), ("a newline", ifs("\n")),
+              ("a backslash", ifs("\\")))
 
 
 # the fields of an unquoted list `p q`, the empty text, `r:s`, where the first byte of IFS is no blank
 UNQUOTED = {"a colon": '"p q" "r" "s"', "a colon and a blank": '"p" "q" "r" "s"',
-        "two bytes that are no blanks": '"p q" "r" "s"',
-            "a letter": '"p q" "r:s"', "a backslash": '"p q" "r:s"'}
+            "two bytes that are no blanks": '"p q" "r" "s"', "a letter": '"p q" "r:s"', "a backslash": '"p q" "r:s"'}
 
 
 def ifs_cases():
@@ -537,13 +532,12 @@ def indirect_cases():
 def quote_cases():
     group("Quotes.")
     for form in ("a'b c'd", '"a b"c', "a\\ b", "''", '""', "''\"\"", "a''", "'' ''", "\"\\a\\$\\`\\\"\\\\\"", "'\\a'",
-            "\\a\\\\", '"$"', "$", "a$", '"a$ b"', "a\\\nb",
-                 '"a\\\nb"', "'a\nb'", '"a\nb"', "'\"'\"'\"", '"$x"\'$x\'', "\\$x", '"\\$x"', '$"a $x"',
-                 '"${x}"y"${x}"', "a#b", "\\#a"):
+                 "\\a\\\\", '"$"', "$", "a$", '"a$ b"', "a\\\nb", '"a\\\nb"', "'a\nb'", '"a\nb"', "'\"'\"'\"",
+                 '"$x"\'$x\'', "\\$x", '"\\$x"', '$"a $x"', '"${x}"y"${x}"', "a#b", "\\#a"):
         case(form, var("x", "v w"))
     group("What `$'..'` stands for.")
     for form in ("\\a\\b\\e\\E\\f", "\\n\\r\\t\\v", "\\\\\\'\\\"\\?", "\\1\\12\\123\\1234", "\\101\\501",
-            "\\x4\\x41\\x414", "\\q\\-", "a b", "$x", "\\x80\\377", ""):
+                 "\\x4\\x41\\x414", "\\q\\-", "a b", "$x", "\\x80\\377", ""):
         case(f"$'{form}'", var("x", "v"))
         case(f"l$'{form}'r", var("x", "v"))
 
@@ -551,7 +545,7 @@ def quote_cases():
 def tilde_cases():
     group("Tildes: in words, in assigned values, in the words of operators, in here-strings.")
     for form in ("~", "~/", "~/a", "~a~", "a~", '"~"', "'~'", "\\~", '~"/a"', "a:~", "x=~", "${u:-~}", "${u-~/a}",
-            "${u:-a~}", '"${u:-~}"', "${u:=~}", "~$u", "$t", "~/$t"):
+                 "${u:-a~}", '"${u:-~}"', "${u:=~}", "~$u", "$t", "~/$t"):
         case(form, var("t", "~")) if form != "x=~" else None
     for form in ("~", "~:~", "a:~/b:~c:~", "a:\\~", "'a:'~", "a\":\"~", "~/a:b", "a=~", ":~", "~:", "$t:~"):
         case(form, var("t", "~"), want="assigned")
@@ -565,9 +559,9 @@ def tilde_cases():
 def brace_cases():
     group("Braces, before all else.")
     for form in ("{a,b}", "x{a,b}y", "{a,b}{c,d}", "{a,{b,c}}", "{1..4}", "{4..1..2}", "{a..e..2}", "{01..10..4}",
-            "{-2..2}", "{a}", "{}", "{a,}", '{"a,b",c}', "\\{a,b}",
-                 "{$x,$y}", '{"$x",y}', "${x}{1,2}", '"${x}"{1,2}', "{a,b}$x", "$x{,}", "{'a b',c}", "{a,b", "a,b}",
-                 "{~,x}", "{~,x}/y", "x{a,b}{1..2}z", "$((1+1)){a,b}"):
+                 "{-2..2}", "{a}", "{}", "{a,}", '{"a,b",c}', "\\{a,b}", "{$x,$y}", '{"$x",y}', "${x}{1,2}",
+                 '"${x}"{1,2}', "{a,b}$x", "$x{,}", "{'a b',c}", "{a,b", "a,b}", "{~,x}", "{~,x}/y", "x{a,b}{1..2}z",
+                 "$((1+1)){a,b}"):
         case(form, var("x", "p q") + var("y", "r"))
     case("{a,b}", want="assigned")
     case("{1..3}", want="text")
@@ -581,9 +575,9 @@ def arithmetic_cases():
     group("Arithmetic. A variable that is evaluated costs a step.")
     six = var("x", "6")
     for form, steps in (("1+2*3", 0), ("x+1", 1), ("$x+1", 0), ("${x}0", 0), ("x*x", 2), ("(x)", 1), ("x=7", 0),
-            ("x+=2", 1), ("x++", 1), ("--x", 1), ("u", 1), ("", 0), ("x>5?1:2", 1),
-                        ("1,2", 0), ("-x", 1), ("${#x}+1", 0), ("${u:-4}*2", 0), ("16#ff", 0), ("0x1F", 0), ("010", 0),
-                        ('"2"+1', 0), (" 1 ", 0)):
+                        ("x+=2", 1), ("x++", 1), ("--x", 1), ("u", 1), ("", 0), ("x>5?1:2", 1), ("1,2", 0), ("-x", 1),
+                        ("${#x}+1", 0), ("${u:-4}*2", 0), ("16#ff", 0), ("0x1F", 0), ("010", 0), ('"2"+1', 0),
+                        (" 1 ", 0)):
         case(f"$(({form}))", six, steps=steps)
         case(f'"$(({form}))"', six, steps=steps)
     case("$((x))", ifs("1") + var("x", "312"), steps=1)
@@ -595,15 +589,15 @@ def arithmetic_cases():
     case('"${x:y}" "${x:y-1:y}" "${x:$y}"', var("x", "abcdef") + var("y", "2"), steps=3)
     case("${x:y=2} $y", var("x", "abcdef"))
     group("Arithmetic texts, before they are evaluated.")
-    for form, text in (("1+$x", "1+6"), ("$((x))*2", "6*2"), ("${x:-2} + ${u:-2}", "6 + 2"), ("${#x}", "1"), ("(1+$x)",
-            "(1+6)")):
+    for form, text in (("1+$x", "1+6"), ("$((x))*2", "6*2"), ("${x:-2} + ${u:-2}", "6 + 2"), ("${#x}", "1"),
+                       ("(1+$x)", "(1+6)")):
         case(form, six, want="arith", kind="not asked", answer=f"ok {shown(text)} steps {1 if 'x))' in form else 0}")
 
 
 def subscript_cases():
     group("Subscripts of assignments, before they are evaluated: quotes go, and nothing is split.")
     for form, text in (("1+$x", "1+6 7"), ('"1"+\'2\'', "1+2"), (" 1 ", " 1 "), ("a[$x]", "a[6 7]"), ("${#x}", "3"),
-            ("~", "~"), ("{1,2}", "{1,2}"), ("\\1", "1"), ("$((1+1))", "2"), ("$*", "8:9")):
+                       ("~", "~"), ("{1,2}", "{1,2}"), ("\\1", "1"), ("$((1+1))", "2"), ("$*", "8:9")):
         state = var("x", "6 7") + args("8", "9") + ifs(":")
         case(form, state, want="subscript", kind="not asked", answer=f"ok {shown(text)} steps 0")
     fault("${u?m}", "UnsetParameter u m", want="subscript", bash="not asked")
@@ -624,7 +618,7 @@ def substitution_cases():
     case('"$(:)"$x', var("x", "p q") + answers(""), kind="bash")
     group("A substitution that has no answer is asked for, from left to right; what stands before it is expanded.")
     for form in ("$(a)", '"$(a)"', "x`a`y", "${u:-$(a)}", "$(( $(a) + 1 ))", "${x:$(a)}", "${a[$(a)]}", "@($(a))",
-            "{$(a),b}"):
+                 "{$(a),b}"):
         case(form, kind="not asked", answer="run steps 0")
     case("$((x))$(a)", var("x", "1"), kind="not asked", answer="run steps 1")
     case("$(s1)$(s2)", answers("a"), kind="not asked", answer="run steps 0")
@@ -633,7 +627,7 @@ def substitution_cases():
 def pathname_cases():
     group("Pathnames, in an empty folder.")
     for form in ("*", "a*", "?", "[ab]", "a[!b]c", "$x", '"$x"', "'*'", "\\*", '"a"*', "[", "[a", "a]", "${u:-*}",
-            '${u:-"*"}', "*/a", "@(a|b)", "!(a)", "'['a]", "[a'b']"):
+                 '${u:-"*"}', "*/a", "@(a|b)", "!(a)", "'['a]", "[a'b']"):
         special = any(mark in form for mark in "@!(") and "[!" not in form
         case(form, var("x", "a* b") + off("failglob") + (on("extglob") if special else []))
         case(form, var("x", "a* b") + off("failglob") + on("nullglob") + (on("extglob") if special else []))
@@ -645,20 +639,20 @@ def pathname_cases():
     case("'*' \"?\" \\[a]", [])
     group("Groups in patterns of operators.")
     for form in ("${x#@(a|b)}", "${x##+(a|b)}", "${x%?(c)}", "${x%%*(c)}", "${x/!(z)/-}", "${x//+([ab])/-}",
-            "${x/@($p)/-}", "${x^^@(a|b)}"):
+                 "${x/@($p)/-}", "${x^^@(a|b)}"):
         case(form, var("x", "abacc") + var("p", "b|ac") + on("extglob"))
 
 
 def here_cases():
     group("Here-documents: no quotes, no splitting; a backslash before `$`, a backquote and a backslash.")
     for form in ("a b\n", "$x\n", "'$x' \"$x\"\n", "\\$x \\\\ \\a \\\"\n", "a\\\nb\n", "${x:-d}${u:-\"d e\"}\n",
-            "${u:-'d'}\n", "$@|$*\n", "${a[@]}|${a[*]}\n", "~ {a,b} *\n",
-                 "$((1+2)) `s1`\n", "$(s1)\n", "${x#p}\n", "$\n", "\n", "", "$'a' $\"b\"\n", "${#x}${x/ /\\/}\n"):
+                 "${u:-'d'}\n", "$@|$*\n", "${a[@]}|${a[*]}\n", "~ {a,b} *\n", "$((1+2)) `s1`\n", "$(s1)\n",
+                 "${x#p}\n", "$\n", "\n", "", "$'a' $\"b\"\n", "${#x}${x/ /\\/}\n"):
         state = var("x", "p  q") + args("1 2", "3") + array("a", ["r", "s t"])
         case(form, state + (answers("out\n\n") if "s1" in form else []), want="here")
     group("Here-strings.")
     for form in ("$x", '"$x"', "a$x", "$@", "$*", '"$*"', "${a[@]}", '"${a[*]}"', "*", "${u:-a  b}", "''", "$u",
-            "a'b  c'"):
+                 "a'b  c'"):
         state = var("x", " p  q ") + args("1 2", "3") + array("a", ["r", "s t"])
         case(form, state, want="text")
         case(form, state + ifs(":"), want="text")
@@ -687,8 +681,9 @@ def words_cases():
 def differing_lists():
     text = var("a", "p q")
     why = "a text is its own element 0, and a slice of its elements takes elements."
-    for form, answer in (("${a[@]:1}", "ok"), ('"${a[@]:1}"', "ok"), ('"l${a[@]:1}r"', 'ok "lr"'), ("${a[*]:0:2}",
-            'ok "p" "q"'), ('"${a[*]:0:2}"', 'ok "p q"'), ('"l${a[*]:0:2}r"', 'ok "lp qr"')):
+    for form, answer in (("${a[@]:1}", "ok"), ('"${a[@]:1}"', "ok"), ('"l${a[@]:1}r"', 'ok "lr"'),
+                         ("${a[*]:0:2}", 'ok "p" "q"'), ('"${a[*]:0:2}"', 'ok "p q"'),
+                         ('"l${a[*]:0:2}r"', 'ok "lp qr"')):
         differs(why, form, answer + " steps 0", text)
     differs(why, "${a[@]:1}", 'ok "" steps 0', text, want="assigned")
     differs(why, "${a[*]:0:2}", 'ok "p q" steps 0', text, want="assigned")
@@ -732,7 +727,7 @@ def differing_cases():
 def substitution_faults():
     group("BadSubstitution: `=` on what takes no value.")
     for form, name in (("${1=w}", "1"), ("${1:=w}", "1"), ("${10=w}", "10"), ("${@=w}", "@"), ("${*:=w}", "*"),
-            ("${@:=w}", "@"), ("${a[@]=w}", "a"), ("${a[*]:=w}", "a")):
+                       ("${@:=w}", "@"), ("${a[@]=w}", "a"), ("${a[*]:=w}", "a")):
         fault(form, f"BadSubstitution {name}")
     group("Not as in bash: it is BadSubstitution also where there is a value.")
     fault("${1=w}", "BadSubstitution 1", args("v"), bash="goes on")
@@ -765,10 +760,10 @@ def substitution_faults():
 def unset_faults():
     group("UnsetParameter: the name, and the word's text as words with one blank between two, or `-`.")
     for form, text in (("${u?no}", "u no"), ("${u:?no}", "u no"), ("${u?}", "u -"), ("${u:?a  b}", "u a b"),
-            ("${u?$x}", "u v w"), ('${u?"a b"}', "u a b"), ("${1?m}", "1 m"),
-                       ("${e:?m}", "e m"), ("${@?m}", "@ m"), ("${*:?m}", "* m"), ("${a[3]?m}", "a m"), ("${a[@]?m}",
-                       "a m"), ('"${u?\'q\'}"', "u 'q'"), ("${u?~}", "u /homeless"),
-                       ("${u?$((1+2))}", "u 3"), ("${x:+${u?in}}", "u in")):
+                       ("${u?$x}", "u v w"), ('${u?"a b"}', "u a b"), ("${1?m}", "1 m"), ("${e:?m}", "e m"),
+                       ("${@?m}", "@ m"), ("${*:?m}", "* m"), ("${a[3]?m}", "a m"), ("${a[@]?m}", "a m"),
+                       ('"${u?\'q\'}"', "u 'q'"), ("${u?~}", "u /homeless"), ("${u?$((1+2))}", "u 3"),
+                       ("${x:+${u?in}}", "u in")):
         fault(form, f"UnsetParameter {text}", var("x", "v w") + var("e", ""))
     fault("${!x?m}", "UnsetParameter x m", var("x", "u"))
     fault("${u?m}", "UnsetParameter u m", want="assigned")
@@ -779,14 +774,14 @@ def unset_faults():
 def unsupported_faults():
     group("Unsupported, which bash has: the parameters of processes, transformations, names by a prefix.")
     for form, what in (("$$", "$$"), ("${$}", "$$"), ('"$$"', "$$"), ("$!", "$!"), ("$-", "$-"), ("${#-}", "$-"),
-            ("${x@Q}", "transformation"), ("${x@U}", "transformation"),
-                       ("${a[@]@Q}", "transformation"), ("${!x@}", "prefix names"), ("${!x*}", "prefix names"),
-                       ("$'\\u41'", "quoting"), ("$'\\U41'", "quoting"), ("$'\\cA'", "quoting"),
-                       ("$RANDOM", "RANDOM"), ("$SECONDS", "SECONDS"), ("$LINENO", "LINENO"), ("${#RANDOM}", "RANDOM"),
-                       ("${RANDOM+x}", "RANDOM"), ("${BASH_VERSION:-x}", "BASH_VERSION"),
-                       ("${BASH_VERSINFO[0]}", "BASH_VERSINFO"), ("${BASH_VERSINFO[@]}", "BASH_VERSINFO"),
-                       ("$BASH_SOURCE", "BASH_SOURCE"), ("${PIPESTATUS[0]}", "PIPESTATUS"),
-                       ("$((RANDOM))", "RANDOM"), ("<(:)", "process substitution"), (">(:)", "process substitution")):
+                       ("${x@Q}", "transformation"), ("${x@U}", "transformation"), ("${a[@]@Q}", "transformation"),
+                       ("${!x@}", "prefix names"), ("${!x*}", "prefix names"), ("$'\\u41'", "quoting"),
+                       ("$'\\U41'", "quoting"), ("$'\\cA'", "quoting"), ("$RANDOM", "RANDOM"), ("$SECONDS", "SECONDS"),
+                       ("$LINENO", "LINENO"), ("${#RANDOM}", "RANDOM"), ("${RANDOM+x}", "RANDOM"),
+                       ("${BASH_VERSION:-x}", "BASH_VERSION"), ("${BASH_VERSINFO[0]}", "BASH_VERSINFO"),
+                       ("${BASH_VERSINFO[@]}", "BASH_VERSINFO"), ("$BASH_SOURCE", "BASH_SOURCE"),
+                       ("${PIPESTATUS[0]}", "PIPESTATUS"), ("$((RANDOM))", "RANDOM"), ("<(:)", "process substitution"),
+                       (">(:)", "process substitution")):
         fault(form, f"Unsupported {what}", var("x", "v"), bash="goes on")
     fault("${!x}", "Unsupported RANDOM", var("x", "RANDOM"), bash="goes on")
     fault("$RANDOM", "Unsupported RANDOM", want="assigned", bash="goes on")
@@ -800,11 +795,11 @@ def unsupported_faults():
 def arithmetic_faults():
     group("Faults of arithmetic, with the whole expression.")
     for form, text in (("$((1+))", "ArithSyntax 1+"), ("$((08))", "ArithSyntax 08"), ("$((1 2))", "ArithSyntax 1 2"),
-            ("$((2**-1))", "ArithNegative 2**-1"), ("$((1/0))", "ArithDivZero 1/0"),
-                       ("$((1%0))", "ArithDivZero 1%0"), ("${a[1/0]}", "ArithDivZero 1/0"), ("${a[1 2]}",
-                       "ArithSyntax 1 2"), ("${x:1/0}", "ArithDivZero 1/0"), ("${x:0:1%0}", "ArithDivZero 1%0"),
-                       ("${x:1 2}", "ArithSyntax 1 2"), ("$((1+$x))", "ArithSyntax 1+v w"), ("${a[1/0]=w}",
-                       "ArithDivZero 1/0")):
+                       ("$((2**-1))", "ArithNegative 2**-1"), ("$((1/0))", "ArithDivZero 1/0"),
+                       ("$((1%0))", "ArithDivZero 1%0"), ("${a[1/0]}", "ArithDivZero 1/0"),
+                       ("${a[1 2]}", "ArithSyntax 1 2"), ("${x:1/0}", "ArithDivZero 1/0"),
+                       ("${x:0:1%0}", "ArithDivZero 1%0"), ("${x:1 2}", "ArithSyntax 1 2"),
+                       ("$((1+$x))", "ArithSyntax 1+v w"), ("${a[1/0]=w}", "ArithDivZero 1/0")):
         fault(form, text, var("x", "v w"))
     fault("$((x))", "ArithNesting x", var("x", "x"), steps=65)
     fault("${a[x]}", "ArithNesting x", var("x", "x"), steps=65)
@@ -816,10 +811,10 @@ def arithmetic_faults():
     group("Not as in bash: a subscript is evaluated also where the array is unset.")
     fault("${#a[1/0]}", "ArithDivZero 1/0", bash="goes on")
     group("BadSubscript: an index before the first element. Bash goes on where it is read, with a message.")
-    for form, state in (("${a[-3]}", array("a", ["p", "q"])), ("${a[-9]}", array("a", {3: "p"})), ("${a[-1]}",
-            array("a", [])), ("${a[-1]}", []), ("${a[-2]}", var("a", "p")),
-                        ("${a[-9]-w}", array("a", ["p"])), ("${a[-9]#p}", array("a",
-                                ["p"])), ("$((a[-9]))", array("a", ["1"]))):
+    for form, state in (("${a[-3]}", array("a", ["p", "q"])), ("${a[-9]}", array("a", {3: "p"})),
+                        ("${a[-1]}", array("a", [])), ("${a[-1]}", []), ("${a[-2]}", var("a", "p")),
+                        ("${a[-9]-w}", array("a", ["p"])), ("${a[-9]#p}", array("a", ["p"])),
+                        ("$((a[-9]))", array("a", ["1"]))):
         fault(form, "BadSubscript a", state, bash="goes on")
     fault("${!v}", "BadSubscript a", array("a", ["p"]) + var("v", "a[-7]"), bash="goes on")
     group("BadSubscript, where bash refuses too.")
@@ -834,9 +829,9 @@ def other_faults():
     fault("${!v:=w}", "Readonly r", var("v", "r") + var("r", "") + readonly("r"))
     fault("${r=w}", "Readonly r", readonly("r"))
     group("GlobFailed, with the field after quote removal.")
-    for form, text in (("*", "*"), ("a*", "a*"), ("?", "?"), ("[ab]", "[ab]"), ("$x", "p*"), ("${u:-*}", "*"), ('"b"*',
-            "b*"), ('x"*"*', "x**"), ("a b *", "*"), ("*/b", "*/b"),
-                       ("{a,b*}", "b*"), ("${a[@]}", "q?"), ("~/*", "/homeless/*"), ("\\**", "**"), ("*'a b'", "*a b")):
+    for form, text in (("*", "*"), ("a*", "a*"), ("?", "?"), ("[ab]", "[ab]"), ("$x", "p*"), ("${u:-*}", "*"),
+                       ('"b"*', "b*"), ('x"*"*', "x**"), ("a b *", "*"), ("*/b", "*/b"), ("{a,b*}", "b*"),
+                       ("${a[@]}", "q?"), ("~/*", "/homeless/*"), ("\\**", "**"), ("*'a b'", "*a b")):
         fault(form, f"GlobFailed {text}", var("x", "p* q*") + array("a", ["p", "q?"]))
     fault("@(a|b)", "GlobFailed @(a|b)", on("extglob"))
     fault("$(s1)", "GlobFailed *", answers("*"))
