@@ -21,27 +21,28 @@ ROWS = os.path.join(HERE, "expand.rows")
 
 HEAD = """\
 # Words, and what they expand to. This file is written by expand.py, which says where the answers come from: bash 5.2
-# (LC_ALL=C), but for those under a comment that begins with "Not as in bash", the faults, arithmetic texts and subscripts
-# before they are evaluated, and the answers `run` and `no`; these were worked out by hand from docs/expansion.md. So were
-# the steps. The probe does not answer this request yet.
+# (LC_ALL=C), but for those under a comment that begins with "Not as in bash", the faults, arithmetic texts and
+# subscripts before they are evaluated, and the answers `run` and `no`; these were worked out by hand from
+# docs/expansion.md. So were the steps. The probe does not answer this request yet.
 #
-# expand TEXT SETTING.. : TEXT is words as a command has them, expanded from a state with HOME=/homeless, IFS blank, tab and
-# newline, no other variable, no arguments, status 0, failglob set and no other option. Each SETTING is one field:
+# expand TEXT SETTING.. : TEXT is words as a command has them, expanded from a state with HOME=/homeless, IFS blank, tab
+# and newline, no other variable, no arguments, status 0, failglob set and no other option. Each SETTING is one field:
 #
 #   NAME=TEXT        a variable             NAME[N]=TEXT     an element       NAME[]   an array without elements
 #   N=TEXT           the argument N; those below it are given too
 #   unset:NAME       it has no binding      readonly:NAME    it is readonly   status:N   the status
 #   set:OPTION, clear:OPTION                failglob, nullglob, noglob or extglob
 #   answer:TEXT      what the next command substitution gives, its last newlines removed before; it costs no step here
-#   want:KIND        what TEXT is, where it is not words: `assigned`, an assigned value; `text`, a here-string; `pattern`, a
-#                    pattern; `here`, the body of a here-document; `arith`, an arithmetic text; `subscript`, that of an
-#                    assignment, without its brackets
+#   want:KIND        what TEXT is, where it is not words: `assigned`, an assigned value; `text`, a here-string;
+#                    `pattern`, a pattern; `here`, the body of a here-document; `arith`, an arithmetic text;
+#                    `subscript`, that of an assignment, without its brackets
 #   against:TEXT     of a pattern, the text that it is matched with
 #
 # The answer is one of these:
 #
-#   ok TEXT.. steps N NAME=TEXT..   each field, or the one text; of a pattern `yes` or `no`, whether it matches, which costs
-#                                   nothing here; the steps; each variable that changed, in the order of the names, as above
+#   ok TEXT.. steps N NAME=TEXT..   each field, or the one text; of a pattern `yes` or `no`, whether it matches, which
+#                                   costs nothing here; the steps; each variable that changed, in the order of the
+#                                   names, as above
 #   fault TEXT steps N              the fault's text
 #   run steps N                     a substitution is asked for, and no answer is left
 #   no                              TEXT is not of its kind
@@ -227,6 +228,7 @@ def changed(state, after):
 
 # ---- rows
 
+EQUAL = []      # arithmetic texts and states, and the texts that they are before they are evaluated
 CASES = []      # comments, and (kind, text, state, want, against, steps, answer)
 
 
@@ -277,11 +279,18 @@ def is_as_told(kind, found, answer):
             "goes on": found is not None, "not asked": True}[kind]
 
 
+def unequal():
+    """The arithmetic texts for which bash has another value than for what they are said to be"""
+    both = ask_all([(text, state, "arith", None) for text, state, _ in EQUAL])
+    plain = ask_all([(text, state, "arith", None) for _, state, text in EQUAL])
+    return [f"not equal: {text}, {made}" for (text, _, made), a, b in zip(EQUAL, both, plain) if not a[0] or a[0] != b[0]]
+
+
 def rows():
     """The lines of the file, and what is wrong"""
     asked = [one for one in CASES if not isinstance(one, str) and one[0] != "not asked"]
     given = dict(zip(map(id, asked), ask_all([one[1:5] for one in asked])))
-    lines, wrong, seen = HEAD.splitlines(), [], set()
+    lines, wrong, seen = HEAD.splitlines(), unequal(), set()
     for one in CASES:
         if isinstance(one, str):
             lines += ["", "# " + one]
@@ -591,6 +600,7 @@ def arithmetic_cases():
     group("Arithmetic texts, before they are evaluated.")
     for form, text in (("1+$x", "1+6"), ("$((x))*2", "6*2"), ("${x:-2} + ${u:-2}", "6 + 2"), ("${#x}", "1"),
                        ("(1+$x)", "(1+6)")):
+        EQUAL.append((form, six, text))
         case(form, six, want="arith", kind="not asked", answer=f"ok {shown(text)} steps {1 if 'x))' in form else 0}")
 
 
