@@ -283,7 +283,8 @@ def unequal():
     """The arithmetic texts for which bash has another value than for what they are said to be"""
     both = ask_all([(text, state, "arith", None) for text, state, _ in EQUAL])
     plain = ask_all([(text, state, "arith", None) for _, state, text in EQUAL])
-    return [f"not equal: {text}, {made}" for (text, _, made), a, b in zip(EQUAL, both, plain) if not a[0] or a[0] != b[0]]
+    told_apart = zip(EQUAL, both, plain)
+    return [f"not equal: {text}, {made}" for (text, _, made), a, b in told_apart if not a[0] or a[0] != b[0]]
 
 
 def rows():
