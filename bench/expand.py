@@ -27,8 +27,8 @@ def texts(size):
     """Words that give one text or few"""
     yield "$x in one word", line(b"$x" * (size // 2), b"x=" + hexadecimal(b"a")), ok([b"a" * (size // 2)])
     yield "$x in one word, unset", line(b"$x" * (size // 2)), ok([])
-    yield "$x in double quotes", line(b'"' + b"$x" * (size // 2) + b'"', b"x=" + hexadecimal(b"b")),
-            ok([b"b" * (size // 2)])
+    quoted = line(b'"' + b"$x" * (size // 2) + b'"', b"x=" + hexadecimal(b"b"))
+    yield "$x in double quotes", quoted, ok([b"b" * (size // 2)])
     yield "$x, a word each", line(b"$x " * (size // 3), b"x=" + hexadecimal(b"a")), ok([b"a"] * (size // 3))
     yield "plain text, a word each", line(b"ab " * (size // 3)), ok([b"ab"] * (size // 3))
     yield "plain text, one word", line(b"a" * min(size, FULL)), ok([b"a" * min(size, FULL)])
@@ -37,8 +37,8 @@ def texts(size):
     if len(text) <= FULL:
         yield "a here-document with 10,000 parameters", line(body, b"x=" + hexadecimal(b"v"), b"want:here"), ok([text])
     nested = b"${x:-" * 200 + b"a" + b"}" * 200
-    yield "200 ${x:- in one another, many times", line((nested + b" ") * (size // len(nested))),
-            ok([b"a"] * (size // len(nested)))
+    count = size // len(nested)
+    yield "200 ${x:- in one another, many times", line((nested + b" ") * count), ok([b"a"] * count)
 
 
 def lists(size):
