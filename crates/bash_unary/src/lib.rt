@@ -2,5 +2,6 @@
 #![tactic(auto)]
 
 mod parameter;
+mod unary;
 
-pub use parameter::is_set;
+pub use unary::unary;
