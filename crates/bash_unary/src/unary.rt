@@ -67,7 +67,7 @@ fn names_set<L: Ledger>(
 }
 
 // What the operator of this letter asks.
-#[tactic(auto, using(crate::proofs::Asked::told_at))]
+#[tactic(auto, using(crate::proofs::Asked::asks_text))]
 fn by_letter<L: Ledger>(
     alloc: Global,
     letter: u8,
