@@ -63,7 +63,15 @@ fn names_set<L: Ledger>(
         return Err(Stop::Memory);
     }
     let reference = whole_ref(alloc, operand)?;
-    is_set(alloc, operand, reference.as_ref(), args, vars, budget, steps)
+    is_set(
+        alloc,
+        operand,
+        reference.as_ref(),
+        args,
+        vars,
+        budget,
+        steps,
+    )
 }
 
 // What the operator of this letter asks.
