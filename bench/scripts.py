@@ -1,9 +1,10 @@
 #!/usr/bin/env python3
 """Usage: scripts.py [PROGRAM [RUNS]]
 
-Times reading scripts of SIZE bytes and of twice that, as probe_times.py says: short commands, one long function, nested
-`if`, one `case`, here-documents that wait on one line, and much that opens and never closes. Ends with 1 where an answer
-is wrong, or where a case takes more than a second at SIZE.
+Times reading scripts of SIZE bytes and of four times that, as probe_times.py says: short commands, one long function,
+nested `if`, one `case`, here-documents that wait on one line, and much that opens and never closes. Ends with 1 where an
+answer is wrong, or where a case takes more than a second for each SIZE bytes or more than ROOM bytes of memory for each
+byte of the script.
 """
 import sys
 
@@ -11,6 +12,7 @@ from probe_times import hexadecimal, time_requests
 
 SIZE = 1 << 20
 LIMIT = (SIZE, 1.0)
+ROOM = 200
 
 
 def requests(size):
@@ -52,4 +54,4 @@ def line(text):
 
 
 if __name__ == "__main__":
-    sys.exit(time_requests(SIZE, requests, "bytes", LIMIT))
+    sys.exit(time_requests(SIZE, requests, "bytes", LIMIT, times=4, room=ROOM))

@@ -1,2 +1,3 @@
 pub mod BodyOf
 pub mod Reversed
+pub mod Rising

@@ -3,6 +3,7 @@
 ghost use Rattle.std.specs.Prelude.{◌≡◌, map, IfOk};
 ghost use Rattle.eb_grammar.specs.Fill as fill;
 
+use crate::bodies::Bodies;
 use crate::draft::{AndOrDraft, Draft, ItemDraft, JoinedDraft, PipeDraft, PipedDraft};
 use crate::lists::reversed;
 use eb_bytes::Memory;
@@ -17,18 +18,14 @@ use std::alloc::Global;
 fn filled_command(
     alloc: Global,
     draft: Draft,
-    bodies: &[Shared<HereBody>],
+    bodies: &Bodies<'_>,
 ) -> Result<Shared<Command>, Memory>
     ensures { IfOk result (λ filled. filled ≡ fill.filled_command bodies.now draft) }
 {
     Ok(Shared::new(alloc, draft.filled(alloc, bodies)?)?)
 }
 
-fn filled_piped(
-    alloc: Global,
-    piped: PipedDraft,
-    bodies: &[Shared<HereBody>],
-) -> Result<Piped, Memory>
+fn filled_piped(alloc: Global, piped: PipedDraft, bodies: &Bodies<'_>) -> Result<Piped, Memory>
     ensures { IfOk result (λ filled. filled ≡ fill.filled_piped bodies.now piped) }
 {
     let PipedOf { bar, command } = piped;
@@ -40,7 +37,7 @@ fn filled_piped(
 fn each_piped(
     alloc: Global,
     others: List<PipedDraft>,
-    bodies: &[Shared<HereBody>],
+    bodies: &Bodies<'_>,
 ) -> Result<List<Piped>, Memory>
     ensures { IfOk result (λ filled. filled ≡ map (fill.filled_piped bodies.now) others) }
 {
@@ -52,7 +49,7 @@ fn each_piped(
     Ok(found)
 }
 
-fn filled_pipe(alloc: Global, pipe: PipeDraft, bodies: &[Shared<HereBody>]) -> Result<Pipe, Memory>
+fn filled_pipe(alloc: Global, pipe: PipeDraft, bodies: &Bodies<'_>) -> Result<Pipe, Memory>
     ensures { IfOk result (λ filled. filled ≡ fill.filled_pipe bodies.now pipe) }
 {
     let PipeOf {
@@ -69,11 +66,7 @@ fn filled_pipe(alloc: Global, pipe: PipeDraft, bodies: &[Shared<HereBody>]) -> R
     })
 }
 
-fn filled_joined(
-    alloc: Global,
-    joined: JoinedDraft,
-    bodies: &[Shared<HereBody>],
-) -> Result<Joined, Memory>
+fn filled_joined(alloc: Global, joined: JoinedDraft, bodies: &Bodies<'_>) -> Result<Joined, Memory>
     ensures { IfOk result (λ filled. filled ≡ fill.filled_joined bodies.now joined) }
 {
     let JoinedOf { junction, pipe } = joined;
@@ -85,7 +78,7 @@ fn filled_joined(
 fn each_joined(
     alloc: Global,
     others: List<JoinedDraft>,
-    bodies: &[Shared<HereBody>],
+    bodies: &Bodies<'_>,
 ) -> Result<List<Joined>, Memory>
     ensures { IfOk result (λ filled. filled ≡ map (fill.filled_joined bodies.now) others) }
 {
@@ -97,11 +90,7 @@ fn each_joined(
     Ok(found)
 }
 
-fn filled_list(
-    alloc: Global,
-    list: AndOrDraft,
-    bodies: &[Shared<HereBody>],
-) -> Result<AndOr, Memory>
+fn filled_list(alloc: Global, list: AndOrDraft, bodies: &Bodies<'_>) -> Result<AndOr, Memory>
     ensures { IfOk result (λ filled. filled ≡ fill.filled_list bodies.now list) }
 {
     let AndOrOf { first, others } = list;
@@ -111,7 +100,7 @@ fn filled_list(
 }
 
 #[tactic(auto, unfolding(eb_grammar::specs::Fill::filled_item))]
-fn filled_item(alloc: Global, item: ItemDraft, bodies: &[Shared<HereBody>]) -> Result<Item, Memory>
+fn filled_item(alloc: Global, item: ItemDraft, bodies: &Bodies<'_>) -> Result<Item, Memory>
     ensures { IfOk result (λ filled. filled ≡ fill.filled_item bodies.now item) }
 {
     let ItemOf { list, end } = item;
@@ -119,15 +108,12 @@ fn filled_item(alloc: Global, item: ItemDraft, bodies: &[Shared<HereBody>]) -> R
     Ok(ItemOf { list, end })
 }
 
-/// The items of a list of commands, with the bodies that were read for it (Bash Reference Manual, "Here Documents").
-///
-/// # Errors
-/// `Memory` where there is no room for them.
+// The items of a list, with the bodies of its here-documents.
 #[tactic(auto, using(crate::proofs::Reversed::mapped_start, crate::proofs::Reversed::mapped_turn, crate::proofs::Reversed::mapped_end))]
-pub fn filled_items(
+fn each_item(
     alloc: Global,
     items: List<ItemDraft>,
-    bodies: &[Shared<HereBody>],
+    bodies: &Bodies<'_>,
 ) -> Result<List<Item>, Memory>
     ensures { IfOk result (λ filled. filled ≡ map (fill.filled_item bodies.now) items) }
 {
@@ -137,4 +123,18 @@ pub fn filled_items(
         found.push(filled_item(alloc, item, bodies)?)?;
     }
     Ok(found)
+}
+
+/// The items of a list of commands, with the bodies that were read for it (Bash Reference Manual, "Here Documents").
+///
+/// # Errors
+/// `Memory` where there is no room for them.
+pub fn filled_items(
+    alloc: Global,
+    items: List<ItemDraft>,
+    bodies: &[Shared<HereBody>],
+) -> Result<List<Item>, Memory>
+    ensures { IfOk result (λ filled. filled ≡ map (fill.filled_item bodies.now) items) }
+{
+    each_item(alloc, items, &Bodies::new(bodies))
 }

@@ -2,12 +2,11 @@ ghost use Rattle.std.specs.Prelude.{◌≡◌, IfOk};
 ghost use Rattle.eb_syntax.specs.declared.tree.Command.TheVariants as command;
 ghost use Rattle.eb_grammar.specs.Fill as fill;
 
+use crate::bodies::Bodies;
 use crate::inner::Inner;
 use crate::redirections::filled_decl;
 use eb_bytes::Memory;
-use eb_syntax::{
-    AndOrOf, Command, CoprocOf, Decl, FuncDefOf, HereBody, ItemOf, JoinedOf, PipeOf, PipedOf,
-};
+use eb_syntax::{AndOrOf, Command, CoprocOf, Decl, FuncDefOf, ItemOf, JoinedOf, PipeOf, PipedOf};
 use shared::Shared;
 use std::alloc::Global;
 use std::marker::Model;
@@ -106,7 +105,7 @@ impl Draft {
     /// # Errors
     /// `Memory` where there is no room for it.
     #[tactic(auto, unfolding(eb_grammar::specs::Fill::filled_command))]
-    pub fn filled(self, alloc: Global, bodies: &[Shared<HereBody>]) -> Result<Command, Memory>
+    pub(crate) fn filled(self, alloc: Global, bodies: &Bodies<'_>) -> Result<Command, Memory>
         ensures { IfOk result (λ filled. filled ≡ fill.filled_command bodies.now self) }
     {
         let Draft { kind } = self;

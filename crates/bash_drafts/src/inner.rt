@@ -2,10 +2,10 @@ ghost use Rattle.std.specs.Prelude.{◌≡◌, IfOk};
 ghost use Rattle.eb_syntax.specs.declared.tree.Command.TheVariants as command;
 ghost use Rattle.eb_grammar.specs.Fill as fill;
 
+use crate::bodies::Bodies;
 use crate::redirections::{filled_redirs, filled_simple};
 use eb_bytes::Memory;
-use eb_syntax::{Command, Compound, HereBody, Redir, Simple};
-use shared::Shared;
+use eb_syntax::{Command, Compound, Redir, Simple};
 use sqlite_items::Items as List;
 use std::alloc::Global;
 use std::marker::Model;
@@ -71,11 +71,7 @@ impl Inner {
     /// # Errors
     /// `Memory` where there is no room for it.
     #[tactic(auto, unfolding(eb_grammar::specs::Fill::filled_inner, eb_grammar::specs::Fill::filled_command))]
-    pub(crate) fn filled(
-        self,
-        alloc: Global,
-        bodies: &[Shared<HereBody>],
-    ) -> Result<Command, Memory>
+    pub(crate) fn filled(self, alloc: Global, bodies: &Bodies<'_>) -> Result<Command, Memory>
         ensures inner { IfOk result (λ filled. filled ≡ fill.filled_inner bodies.now self) }
         ensures alone { IfOk result (λ filled. filled ≡ fill.filled_command bodies.now self) }
     {

@@ -4,11 +4,10 @@ ghost use Rattle.std.specs.Prelude.{◌≡◌, map, IfOk};
 ghost use Rattle.std.specs.Option.{unwrap_or};
 ghost use Rattle.eb_grammar.specs.Fill as fill;
 
-use crate::bodies::body_of;
+use crate::bodies::Bodies;
 use crate::lists::reversed;
 use eb_bytes::{Bytes, Memory};
-use eb_syntax::{Argument, Decl, HereBody, Prefix, Redir, Simple, Tail, TailPart};
-use shared::Shared;
+use eb_syntax::{Argument, Decl, Prefix, Redir, Simple, Tail, TailPart};
 use sqlite_items::Items as List;
 use std::alloc::Global;
 
@@ -17,7 +16,7 @@ use std::alloc::Global;
 fn filled_document(
     alloc: Global,
     redir: &Redir,
-    bodies: &[Shared<HereBody>],
+    bodies: &Bodies<'_>,
 ) -> Result<Option<Redir>, Memory>
     ensures { IfOk result (λ filled. unwrap_or filled redir.now ≡ fill.filled_redir bodies.now redir.now) }
 {
@@ -25,7 +24,7 @@ fn filled_document(
         Redir::Here(digits, which, word, mark, _) => {
             let digits = Bytes::from_slice(alloc, digits.as_slice())?;
             let word = word.share()?;
-            let body = body_of(*mark, bodies)?;
+            let body = bodies.of(*mark)?;
             Ok(Some(Redir::Here(digits, *which, word, *mark, body)))
         }
         _ => Ok(None),
@@ -33,7 +32,7 @@ fn filled_document(
 }
 
 // A redirection, which holds the body of its mark if it is a here-document.
-fn filled_redir(alloc: Global, redir: Redir, bodies: &[Shared<HereBody>]) -> Result<Redir, Memory>
+fn filled_redir(alloc: Global, redir: Redir, bodies: &Bodies<'_>) -> Result<Redir, Memory>
     ensures { IfOk result (λ filled. filled ≡ fill.filled_redir bodies.now redir) }
 {
     match filled_document(alloc, &redir, bodies)? {
@@ -50,7 +49,7 @@ fn filled_redir(alloc: Global, redir: Redir, bodies: &[Shared<HereBody>]) -> Res
 pub fn filled_redirs(
     alloc: Global,
     redirs: List<Redir>,
-    bodies: &[Shared<HereBody>],
+    bodies: &Bodies<'_>,
 ) -> Result<List<Redir>, Memory>
     ensures { IfOk result (λ filled. filled ≡ map (fill.filled_redir bodies.now) redirs) }
 {
@@ -64,11 +63,7 @@ pub fn filled_redirs(
 
 // What stands before a command's name.
 #[tactic(auto, unfolding(eb_grammar::specs::Fill::filled_prefix))]
-fn filled_prefix(
-    alloc: Global,
-    prefix: Prefix,
-    bodies: &[Shared<HereBody>],
-) -> Result<Prefix, Memory>
+fn filled_prefix(alloc: Global, prefix: Prefix, bodies: &Bodies<'_>) -> Result<Prefix, Memory>
     ensures { IfOk result (λ filled. filled ≡ fill.filled_prefix bodies.now prefix) }
 {
     match prefix {
@@ -81,7 +76,7 @@ fn filled_prefix(
 fn filled_prefixes(
     alloc: Global,
     prefixes: List<Prefix>,
-    bodies: &[Shared<HereBody>],
+    bodies: &Bodies<'_>,
 ) -> Result<List<Prefix>, Memory>
     ensures { IfOk result (λ filled. filled ≡ map (fill.filled_prefix bodies.now) prefixes) }
 {
@@ -98,7 +93,7 @@ fn filled_prefixes(
 fn filled_argument(
     alloc: Global,
     argument: Argument,
-    bodies: &[Shared<HereBody>],
+    bodies: &Bodies<'_>,
 ) -> Result<Argument, Memory>
     ensures { IfOk result (λ filled. filled ≡ fill.filled_argument bodies.now argument) }
 {
@@ -113,7 +108,7 @@ fn filled_argument(
 fn filled_arguments(
     alloc: Global,
     arguments: List<Argument>,
-    bodies: &[Shared<HereBody>],
+    bodies: &Bodies<'_>,
 ) -> Result<List<Argument>, Memory>
     ensures { IfOk result (λ filled. filled ≡ map (fill.filled_argument bodies.now) arguments) }
 {
@@ -127,11 +122,7 @@ fn filled_arguments(
 
 // What stands after a command's name.
 #[tactic(auto, unfolding(eb_grammar::specs::Fill::filled_part))]
-fn filled_part(
-    alloc: Global,
-    part: TailPart,
-    bodies: &[Shared<HereBody>],
-) -> Result<TailPart, Memory>
+fn filled_part(alloc: Global, part: TailPart, bodies: &Bodies<'_>) -> Result<TailPart, Memory>
     ensures { IfOk result (λ filled. filled ≡ fill.filled_part bodies.now part) }
 {
     match part {
@@ -144,7 +135,7 @@ fn filled_part(
 fn filled_parts(
     alloc: Global,
     parts: List<TailPart>,
-    bodies: &[Shared<HereBody>],
+    bodies: &Bodies<'_>,
 ) -> Result<List<TailPart>, Memory>
     ensures { IfOk result (λ filled. filled ≡ map (fill.filled_part bodies.now) parts) }
 {
@@ -157,7 +148,7 @@ fn filled_parts(
 }
 
 #[tactic(auto, unfolding(eb_grammar::specs::Fill::filled_tail))]
-fn filled_tail(alloc: Global, tail: Tail, bodies: &[Shared<HereBody>]) -> Result<Tail, Memory>
+fn filled_tail(alloc: Global, tail: Tail, bodies: &Bodies<'_>) -> Result<Tail, Memory>
     ensures { IfOk result (λ filled. filled ≡ fill.filled_tail bodies.now tail) }
 {
     let Tail { first, others } = tail;
@@ -170,11 +161,7 @@ fn filled_tail(alloc: Global, tail: Tail, bodies: &[Shared<HereBody>]) -> Result
 /// # Errors
 /// `Memory` where there is no room for it.
 #[tactic(auto, unfolding(eb_grammar::specs::Fill::filled_simple))]
-pub fn filled_simple(
-    alloc: Global,
-    simple: Simple,
-    bodies: &[Shared<HereBody>],
-) -> Result<Simple, Memory>
+pub fn filled_simple(alloc: Global, simple: Simple, bodies: &Bodies<'_>) -> Result<Simple, Memory>
     ensures { IfOk result (λ filled. filled ≡ fill.filled_simple bodies.now simple) }
 {
     let Simple { before, tail } = simple;
@@ -196,11 +183,7 @@ pub fn filled_simple(
 /// # Errors
 /// `Memory` where there is no room for it.
 #[tactic(auto, unfolding(eb_grammar::specs::Fill::filled_decl))]
-pub fn filled_decl(
-    alloc: Global,
-    declaration: Decl,
-    bodies: &[Shared<HereBody>],
-) -> Result<Decl, Memory>
+pub fn filled_decl(alloc: Global, declaration: Decl, bodies: &Bodies<'_>) -> Result<Decl, Memory>
     ensures { IfOk result (λ filled. filled ≡ fill.filled_decl bodies.now declaration) }
 {
     let Decl {

@@ -51,7 +51,7 @@ mod words;
 pub use arith_texts::{arith_of, arith_part_of};
 pub use back::back_of;
 pub use dollars::dollar_of;
-pub use params::param_of;
+pub use params::{param_of, reference};
 pub use pieces::piece_of;
 pub use quotes::quoted_piece_of;
 pub use subscripts::subscript_of;

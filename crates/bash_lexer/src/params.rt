@@ -29,6 +29,10 @@ fn named_reference<S: Fn(&mut Cursor<'_>) -> Result<Sub, LexErr>>(
 }
 
 /// The parameter that is meant: a name with its subscript, read by `subscript`, digits, or a special parameter.
+///
+/// # Errors
+/// `NoParse` exactly where none stands at the place, `TooDeep` exactly where its subscript opens more nestings than may be
+/// open, `Memory` where there is no room for it. The cursor is as it was then.
 #[tactic(auto, using(crate::proofs::References::reference_is))]
 pub fn reference<S: Fn(&mut Cursor<'_>) -> Result<Sub, LexErr>>(
     c: &mut Cursor<'_>,

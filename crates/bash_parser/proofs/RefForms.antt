@@ -2,18 +2,9 @@
 use Rattle.std.proofs.Common.{◌≡◌, true, false, Some, None, Ok, Err, ap, ◌∙◌, refl}
 use Rattle.eb_bytes.specs.Text.{Text}
 use Rattle.eb_syntax.specs.Tree.{Ref}
-use Rattle.eb_syntax.specs.declared.parts.RefOf.TheVariants as r
-use Rattle.eb_grammar.specs.declared.class.Class.TheVariants as class
-use Rattle.eb_grammar.specs.Classes.{byte}
 use Rattle.eb_grammar.specs.Grammar.{inside, rules_in, whole_node, whole_ref}
-use Rattle.eb_grammar.specs.Names.{digits}
-use Rattle.eb_grammar.specs.Params.{named_ref, ref}
-use Rattle.eb_grammar.specs.Peg.{Outcome, Spot, Stop, ◌<$>◌, ◌</>◌, ends, start_at}
-use Rattle.eb_grammar.specs.Rules.{Rules}
-
-pub reference_is : (rules : Rules) (s : Spot) → ref rules s ≡ (named_ref rules </> r.Digits <$> digits </> r.Special <$> byte class.Special) s
-unfolding ref
-reference_is rules s = refl
+use Rattle.eb_grammar.specs.Params.{ref}
+use Rattle.eb_grammar.specs.Peg.{Outcome, Spot, Stop, ends, start_at}
 
 module _ (text : Text) where
   by_outcome : (o : Outcome Ref) → ref (rules_in (inside 200)) (start_at 1 text) ≡ o → whole_ref text ≡ whole_node o

@@ -33,7 +33,7 @@ fn group<
     groups_of(c, body, &arith)
 }
 
-// `if`, whose nesting is open.
+// `if`, whose nesting is open. Its parts are all read by `body`; it takes `items` too, as the other three forms do.
 fn conditional<
     I: Fn(&mut Cursor<'_>) -> Result<Items, LexErr>,
     O: Fn(&mut Cursor<'_>) -> Result<Body, LexErr>,

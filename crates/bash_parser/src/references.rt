@@ -1,16 +1,14 @@
 //! Texts that name a parameter, as the operand of `-v` and the value behind `${!name}` do.
 
 ghost use Rattle.std.specs.Prelude.{◌≡◌, ◌<◌, length, IfOk};
-ghost use Rattle.bash_cursor.specs.Reads.{Reads, ReadsBelow};
+ghost use Rattle.bash_cursor.specs.Reads.{Reads};
 ghost use Rattle.bash_reading.specs.At.{body_at, items_at, subscript_at};
-ghost use Rattle.eb_grammar.specs.Grammar.{inside, rules_in, whole_ref as whole_ref_of};
-ghost use Rattle.eb_grammar.specs.Params as params;
+ghost use Rattle.eb_grammar.specs.Grammar.{whole_ref as whole_ref_of};
 
 use crate::knot::{body, items};
-use bash_cursor::{Cursor, LexErr, digits, name, or_back};
-use bash_reading::{attempt, attempt_or_back};
+use bash_cursor::{Cursor, LexErr};
+use bash_lexer::reference;
 use eb_bytes::Memory;
-use eb_grammar::Class;
 use eb_syntax::{Body, Items, Ref, Sub};
 use std::alloc::Global;
 
@@ -27,34 +25,6 @@ fn subscript_here(c: &mut Cursor<'_>) -> Result<Sub, LexErr>
     bash_words::subscript(c, &inner_items, &inner_body)
 }
 
-// A name, and a subscript, if it stands there.
-#[tactic(auto, unfolding(eb_grammar::specs::Params::named_ref))]
-fn named_reference(c: &mut Cursor<'_>) -> Result<Ref, LexErr>
-    ensures { Reads (params.named_ref (rules_in (inside c.old.room))) c.old result c.new }
-{
-    let start = c.here();
-    let called = name(c)?;
-    let index = attempt_or_back!(c, start, subscript_here(c));
-    Ok(Ref::Name(called, index))
-}
-
-// The parameter that is named: a name with its subscript, digits, or a special parameter.
-#[tactic(auto, using(crate::proofs::RefForms::reference_is))]
-fn reference(c: &mut Cursor<'_>) -> Result<Ref, LexErr>
-    ensures { Reads (params.ref (rules_in (inside c.old.room))) c.old result c.new }
-{
-    if let Some(found) = attempt!(named_reference(c)) {
-        return Ok(found);
-    }
-    if let Some(number) = attempt!(digits(c)) {
-        return Ok(Ref::Digits(number));
-    }
-    match c.byte(Class::Special) {
-        Some(byte) => Ok(Ref::Special(byte)),
-        None => Err(LexErr::NoParse),
-    }
-}
-
 /// The parameter that a whole text names: a variable, with a subscript or without; a positional parameter, by its number;
 /// or a special one (Bash Reference Manual, "Shell Parameters", "Arrays"). `None` exactly where the text is none of these,
 /// also where its subscript opens more nestings than may be open.
@@ -66,8 +36,11 @@ pub fn whole_ref(alloc: Global, text: &[u8]) -> Result<Option<Ref>, Memory>
     requires { length text.now < 4294967295 }
     ensures { IfOk result (λ found. found ≡ whole_ref_of text.now) }
 {
+    let subscript = |c: &mut Cursor<'_>| -> Result<Sub, LexErr>
+        ensures { Reads (subscript_at c.old.room) c.old result c.new }
+    { subscript_here(c) };
     let mut c = Cursor::new(alloc, text);
-    match reference(&mut c) {
+    match reference(&mut c, &subscript) {
         Ok(found) if c.at_end() => Ok(Some(found)),
         Ok(_) | Err(LexErr::NoParse | LexErr::TooDeep { .. }) => Ok(None),
         Err(LexErr::Memory) => Err(Memory),

@@ -57,12 +57,14 @@ fn script_of(alloc: Global, text: &[u8]) -> Result<Script, ParseErr>
     }
 }
 
-/// The script that a text is, kept with the text.
+/// The script that a text is, kept with the text (Bash Reference Manual, "Shell Syntax"). The text may have any bytes, and
+/// has fewer than 4,294,967,295 of them, so that its lines and places are numbers of 32 bits; lines count from 1.
 ///
 /// # Errors
-/// `Refused` exactly where the text is no script, with the line of the first byte that belongs to none, or with that of the
-/// text's end where it ends while a here-document waits for its body; `TooDeep` exactly where reading it opens more nestings
-/// than may be open, with the line on which the first such one begins; `Memory` where there is no room for it.
+/// `Refused` exactly where the text is no script, with the line of the first byte that the outermost list of commands does
+/// not take, which is that on which the wrong command begins, or with the line of the text's end where a here-document still
+/// waits for its body there. `TooDeep` exactly where reading it opens more nestings than the 200 that may be open, with the
+/// line on which the first such one begins. `Memory` where there is no room for it.
 pub fn parse_script(alloc: Global, text: Bytes) -> Result<Parsed, ParseErr>
     requires { length text < 4294967295 }
     ensures { ParsesTo text result (script text) }

@@ -1,3 +1,4 @@
+pub mod AssignHeads
 pub mod Bodies
 pub mod DelimiterParts
 pub mod DelimiterWords

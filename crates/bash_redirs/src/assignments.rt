@@ -12,15 +12,17 @@ use crate::lists::word_of;
 use bash_cursor::{Cursor, LexErr, name, or_back};
 use bash_reading::{attempt, attempt_or_back, must, or_restore, put};
 use eb_syntax::{Assign, Assigned, Piece, Sub, Word};
+use grammar_laws::Nesting;
 use sqlite_items::Items as List;
 
 /// `name=..`, `name[..]=..`, `name+=..` or `name=(..)`: the pieces are read by `piece`, a subscript by `subscript`, and in
-/// an array the words by `word` and what stands between them by `lines`.
+/// an array the words by `word` and what stands between them by `lines`. Where a subscript was read and no `=` stands
+/// after it, the cursor remembers it, since its bytes are read again as those of a word.
 ///
 /// # Errors
 /// `NoParse` exactly where no assignment stands at the place, `TooDeep` exactly where reading it opens more nestings than
 /// may be open, `Memory` where there is no room for it. The cursor, with its here-documents, is as it was then.
-#[tactic(auto, unfolding(eb_grammar::specs::Redirections::assign))]
+#[tactic(auto, using(crate::proofs::AssignHeads::no_head), unfolding(eb_grammar::specs::Redirections::assign))]
 pub fn assign<
     P: Fn(&mut Cursor<'_>) -> Result<Piece, LexErr>,
     S: Fn(&mut Cursor<'_>) -> Result<Sub, LexErr>,
@@ -33,11 +35,20 @@ pub fn assign<
     requires between { ReadsMarksBelow lines_at c.old.room (L.pre lines.now) (L.post lines.now) }
     ensures { ReadsMarks (redirections.assign (inside c.old.room)) c.old result c.new }
 {
+    if c.known(Nesting::AssignHead) {
+        return Err(LexErr::NoParse);
+    }
     let start = c.here();
     let called = name(c)?;
     let index = attempt_or_back!(c, start, subscript(c));
     let append = c.eat(b"+");
-    must!(c, start, c.eat(b"="));
+    if !c.eat(b"=") {
+        c.back_to(start);
+        if index.is_some() {
+            c.remember(Nesting::AssignHead);
+        }
+        return Err(LexErr::NoParse);
+    }
     let value = or_back!(c, start, assigned(c, piece, word, lines));
     Ok(Assign {
         name: called,

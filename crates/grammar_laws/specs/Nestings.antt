@@ -1,14 +1,20 @@
 -- Where a nesting on the level of words has no reading.
-use Rattle.std.specs.Prelude.{◌≡◌, ℕ, ◌≤◌, true, false, List, Err}
+use Rattle.std.specs.Prelude.{◌≡◌, ℕ, ◌≤◌, true, false, List, Option, Err}
 use Rattle.eb_syntax.specs.declared.tree.HereBody.{HereBody}
-use Rattle.eb_grammar.specs.Peg.{HereMark, Spot, No, nest, lit}
+use Rattle.eb_grammar.specs.Peg.{HereMark, Spot, No, Rule, ◌>>◌, maybe, stands, nest, lit}
 use Rattle.eb_grammar.specs.Grammar.{inside}
+use Rattle.eb_grammar.specs.Names.{name}
 use Rattle.eb_grammar.specs.Params.{param, subscript}
 use Rattle.eb_grammar.specs.Words.{arith_dollar, backquoted, double_quoted, group, group_start, process, process_start, substitution}
 use Rattle.eb_grammar.specs.Conditions.{regex_group}
+use Rattle.eb_grammar.specs.Rules.{Rules}
 use Rattle.grammar_laws.specs.Marks.{with_marks}
 use Rattle.grammar_laws.specs.declared.nesting.Nesting.{Nesting}
 use Rattle.grammar_laws.specs.declared.nesting.Nesting.TheVariants as k
+
+-- Name Sub? "+"? "=", with which an assignment begins
+abbrev pub assign_head : Option Rules → Rule (Unit {0})
+assign_head inside = name >> (maybe (subscript inside) >> (stands (lit "+") >> lit "="))
 
 -- it has no reading there, where so many nestings may still be opened
 abbrev pub NoReading : Nesting → ℕ → Spot → Type 0
@@ -21,6 +27,7 @@ NoReading (k.Parameter quoted) room s = nest (inside room) (lit "${") (λ rules.
 NoReading k.Backquotes room s = backquoted (inside room) s ≡ Err No
 NoReading k.Process room s = nest (inside room) process_start process s ≡ Err No
 NoReading k.RegexGroup room s = nest (inside room) (lit "(") regex_group s ≡ Err No
+NoReading k.AssignHead room s = assign_head (inside room) s ≡ Err No
 
 -- nor does it where more nestings may be opened
 abbrev pub MoreRoomHasNone : Type 0
@@ -43,6 +50,7 @@ number_of (k.Parameter true) = 7
 number_of k.Backquotes = 8
 number_of k.Process = 9
 number_of k.RegexGroup = 10
+number_of k.AssignHead = 11
 
 -- no two have the same
 abbrev pub NumbersDiffer : Type 0

@@ -1,7 +1,8 @@
 ghost use Rattle.std.specs.Prelude.{◌≡◌};
 ghost use Rattle.grammar_laws.specs.Nestings.{number_of};
 
-/// What opens a nesting on the level of words. Where it has no reading, its bytes may be taken another way.
+/// What opens a nesting on the level of words, or may hold one. Where it has no reading, its bytes may be taken another
+/// way.
 #[derive(Clone, Copy)]
 pub enum Nesting {
     /// An extended group: `?(`, `*(`, `+(`, `@(` or `!(`
@@ -22,6 +23,8 @@ pub enum Nesting {
     Process,
     /// `(` of a regular expression
     RegexGroup,
+    /// What an assignment begins with: a name, perhaps a subscript, and `=` or `+=`
+    AssignHead,
 }
 
 impl Nesting {
@@ -41,6 +44,7 @@ impl Nesting {
             Nesting::Backquotes => 8,
             Nesting::Process => 9,
             Nesting::RegexGroup => 10,
+            Nesting::AssignHead => 11,
         }
     }
 }

@@ -1,7 +1,7 @@
 use Rattle.std.proofs.Common.{◌≡◌, ◌++◌, map, length}
 use Rattle.std.specs.Prelude.{reverse}
 use Rattle.eb_grammar.specs.Fill.{filled_item}
-use Rattle.bash_drafts.proofs.commands.filled_items.Given as goal
+use Rattle.bash_drafts.proofs.commands.each_item.Given as goal
 
 abbrev pub invariant-loop-item : goal.invariant-loop-item
 invariant-loop-item l = l.found ++ map (filled_item l.bodies) (reverse l.rest) ≡ map (filled_item l.bodies) l.fn.items
