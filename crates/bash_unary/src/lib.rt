@@ -2,6 +2,6 @@
 #![tactic(auto)]
 
 mod parameter;
-mod unary;
+mod condition;
 
-pub use unary::unary;
+pub use condition::unary;
