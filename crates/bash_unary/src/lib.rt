@@ -1,6 +1,7 @@
 //! The operators of `[[ .. ]]` with one operand (Bash Reference Manual, "Bash Conditional Expressions"), `-v` among them.
 #![tactic(auto)]
 
+mod condition;
 mod parameter;
 
-pub use parameter::is_set;
+pub use condition::unary;

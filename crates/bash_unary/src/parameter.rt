@@ -195,10 +195,10 @@ fn subscript_in<'a>(operand: &'a [u8], read: Option<&Sub>) -> Option<&'a [u8]>
     }
 }
 
-/// Whether the parameter is set that `reference` is, as which the whole text of `operand` is read: a variable, or an
-/// element of it; a positional parameter; a special one. An operand that is none is at fault.
+// Whether the parameter is set that `reference` is, as which the whole text of `operand` is read: a variable, or an
+// element of it; a positional parameter; a special one. An operand that is none is at fault.
 #[tactic(auto, using(crate::proofs::Set::of_special))]
-pub fn is_set<L: Ledger>(
+pub(crate) fn is_set<L: Ledger>(
     alloc: Global,
     operand: &[u8],
     reference: Option<&Ref>,

@@ -60,7 +60,7 @@
 //! | `parse TEXT` | `script` where the text is one; `refused LINE` or `deep LINE` |
 //! | `share KIND TEXT` | the kind and the text of what `share` gives of a tree of this kind and text |
 //! | `truth [WORD].. [set NAME=TEXT..]` | the truth of the words of `test`, `true` or `false`, or `fault` and its text |
-//! | `is_set TEXT [ARG].. [set NAME=TEXT..]` | the same of `[[ -v TEXT ]]`, then `steps N` |
+//! | `condition OP TEXT [ARG].. [set NAME=TEXT..]` | the same of `[[ OP TEXT ]]`, then `steps N` |
 //! | `unary LETTER TEXT` | the same of `[[ -LETTER TEXT ]]`, but for `-v` |
 //! | `binary OP TEXT MARKS [steps LIMIT] [NAME=TEXT]..` | the same of `[[ TEXT OP MARKS ]]`, then `steps N` |
 //! | `arith TEXT [steps LIMIT] [GIVEN]..` | `ok N` or the fault, `steps N`, then each variable given or set |

@@ -13,7 +13,7 @@ use probe_packages::{
 };
 use probe_patterns::{Search, find, operate, parameters, slice, split, substring};
 use probe_redirs::{assign, documents, mark, redir, regex};
-use probe_scripts::{is_set, parse};
+use probe_scripts::{condition, parse};
 use probe_trees::{ansi, ansi_expanded, fault, funcs, share};
 use probe_variables::{arith, read, vars};
 use probe_words::word;
@@ -59,7 +59,7 @@ fn answer_fields(request: &[u8], fields: &[&[u8]], answer: &mut Answer) -> Resul
         b"fault" => fault(fields, answer),
         b"arith" => arith(fields, answer),
         b"truth" => truth(fields, answer),
-        b"is_set" => is_set(fields, answer),
+        b"condition" => condition(fields, answer),
         b"unary" => unary(fields, answer),
         b"binary" => binary(fields, answer),
         b"echo" => echo(fields, answer),

@@ -1,8 +1,8 @@
-//! Requests on scripts, and on the parameters that texts name. No part of the product.
+//! Requests on scripts, and on conditions with one operand. No part of the product.
 #![tactic(auto)]
 
-mod parameters;
+mod conditions;
 mod scripts;
 
-pub use parameters::is_set;
+pub use conditions::condition;
 pub use scripts::parse;

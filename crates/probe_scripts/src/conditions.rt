@@ -1,8 +1,7 @@
 ghost use Rattle.std.specs.Prelude.{◌≡◌, ◌<◌};
 
-use bash_parser::whole_ref;
+use bash_unary::unary;
 use eb_bytes::{Budget, Bytes, Steps};
-use eb_syntax::Ref;
 use probe_base::{Answer, Fault, read_texts};
 use probe_conditions::put_stop;
 use probe_variables::{Known, before_set};
@@ -10,29 +9,24 @@ use shell_vars::Vars;
 use std::marker::Brand;
 use std::sync::ledger::{Blank, Ledger};
 
-// How many bytes an operand has at most.
-const LONGEST: usize = 4_294_967_294;
-
 // How many steps a request may take.
 const STEPS: u64 = 10;
 
-/// `is_set TEXT [ARG].. [set NAME=TEXT..]`: the answer of `[[ -v TEXT ]]` with these positional parameters and variables:
-/// `true`, `false`, or `fault` and its text; then `steps` and how many were used. It may take 10 steps.
-pub fn is_set(fields: &[&[u8]], answer: &mut Answer) -> Result<(), Fault> {
-    let (texts, given) = before_set(fields);
+/// `condition OP TEXT [ARG].. [set NAME=TEXT..]`: the answer of `[[ OP TEXT ]]` with these positional parameters and
+/// variables: `true`, `false`, or `fault` and its text; then `steps` and how many were used. It may take 10 steps.
+pub fn condition(fields: &[&[u8]], answer: &mut Answer) -> Result<(), Fault> {
+    let (fields, given) = before_set(fields);
+    let [op, texts @ ..] = fields else {
+        return Err(Fault::NoRequest);
+    };
     let texts = read_texts(answer.alloc(), texts)?;
     let [operand, args @ ..] = texts.as_slice() else {
         return Err(Fault::NoRequest);
     };
-    let operand = operand.as_slice();
-    if operand.len() > LONGEST {
-        return Err(Fault::NoRequest);
-    }
-    let reference = whole_ref(answer.alloc(), operand)?;
     let mut known = Known::new(answer.alloc(), b"", given)?;
-    put_is_set::<Brand>(
-        operand,
-        reference.as_ref(),
+    put_condition::<Brand>(
+        op,
+        operand.as_slice(),
         args,
         &mut known.vars,
         Blank::new(1),
@@ -41,9 +35,9 @@ pub fn is_set(fields: &[&[u8]], answer: &mut Answer) -> Result<(), Fault> {
     Ok(())
 }
 
-fn put_is_set<L: Ledger>(
+fn put_condition<L: Ledger>(
+    op: &[u8],
     operand: &[u8],
-    reference: Option<&Ref>,
     args: &[Bytes],
     vars: &mut Vars,
     blank: Blank,
@@ -55,10 +49,10 @@ fn put_is_set<L: Ledger>(
 {
     let mut budget = Budget::new(STEPS);
     let mut steps = Steps::<L>::new(blank);
-    let truth = bash_unary::is_set(
+    let truth = unary(
         answer.alloc(),
+        op,
         operand,
-        reference,
         args,
         vars,
         &mut budget,
