@@ -2,7 +2,11 @@
 //! "Shell Expansions").
 #![tactic(auto)]
 
+mod dollars;
+mod leaves;
 mod level;
+mod operators;
+mod refer;
 mod references;
 mod scene;
 
