@@ -46,6 +46,15 @@ module _ (sub : Sub) (n : ℕ) (at : State) (m : Mode) (quoted : Bool) where
   looks (Param-F.Param::Value s op) r e =
       ap (λ x. and_then (referred (index sub (inside sub n)) x at) (param_found sub (inside sub n) m quoted (Param-F.Param::Value s op))) e
 
+pub looks_for_length : (p : Param) (r : Ref) → out-Param p ≡ Param-F.Length r → IsReferred (out-Param p) r
+looks_for_length p r e = subst (λ l. IsReferred l r) (sym e) refl
+
+pub looks_for_indirect : (p : Param) (r : Ref) (op : Option Op) → out-Param p ≡ Param-F.Indirect r op → IsReferred (out-Param p) r
+looks_for_indirect p r op e = subst (λ l. IsReferred l r) (sym e) refl
+
+pub looks_for_value : (p : Param) (r : Ref) (op : Option Op) → out-Param p ≡ Param-F.Param::Value r op → IsReferred (out-Param p) r
+looks_for_value p r op e = subst (λ l. IsReferred l r) (sym e) refl
+
 named : (p : ParamLayer) (r : Ref) → IsReferred p r → referred_name p ≡ name_of r
 named (Param-F.Length s) r e = ap name_of e
 named (Param-F.Names s b) r e = absurd e

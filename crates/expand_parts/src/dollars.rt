@@ -3,7 +3,7 @@ ghost use Rattle.std.specs.Option.{option_copied};
 ghost use Rattle.shell_state.specs.Outcome.{Outcome, and_then, pure};
 ghost use Rattle.shell_state.specs.State.{State};
 ghost use Rattle.eb_syntax.specs.Tree.{Ref as Reference};
-ghost use Rattle.eb_syntax.specs.declared.tree.AP.TheOpen.{Param-F};
+ghost use Rattle.eb_syntax.specs.declared.tree.AP.TheOpen.{Dollar-F, Param-F};
 ghost use Rattle.eb_syntax.specs.declared.tree.Dollar.{out-Dollar};
 ghost use Rattle.eb_syntax.specs.declared.tree.Param.{out-Param};
 ghost use Rattle.word_meaning.specs.Marks.{emitted, given};
@@ -22,12 +22,13 @@ use crate::refer::{Referred, refer};
 use crate::references::{asks_indices, name_of, text_found};
 use crate::scene::{Scene, open, unsupported};
 use eb_bytes::{Bytes, decimal};
-use eb_syntax::{Dollar, Op, Param, Ref};
+use eb_syntax::{AP, Dollar, Op, Param, Ref};
 use expand_marks::Given;
 use expand_operators::{indices, length_of, show};
 use expand_values::{Found, positional, special, variable};
 use shared::Shared;
 use shell_state::Stop;
+use sqlite_items::Items as List;
 use word_meaning::{Mode, Tildes};
 
 /// What is found, as its text or its elements.
@@ -59,8 +60,50 @@ fn shown_if_found(
     }
 }
 
-/// What a dollar begins.
+// `$((..))`
 #[tactic(auto, using(crate::proofs::OpenedMore::arithmetic_opens))]
+fn arithmetic(
+    scene: &Scene<'_>,
+    mode: Mode,
+    quoted: bool,
+    parts: &Shared<List<AP>>,
+) -> Result<Act, Stop>
+    ensures { (sub : Sub) (at : State) → Acts result sub (dollar_at sub (inside sub scene.now.room) mode quoted (Dollar-F.Dollar::Arith parts.now) at) scene.now.room at }
+{
+    open(
+        scene,
+        Parts::Arith(parts.share()?),
+        Mode::Text,
+        Tildes::Nowhere,
+        Use::Arithmetic(quoted),
+    )
+}
+
+// `$NAME`
+fn by_name(scene: &Scene<'_>, mode: Mode, quoted: bool, name: &[u8]) -> Result<Act, Stop>
+    ensures { (sub : Sub) (at : State) → Sees scene.now at → Acts result sub (dollar_at sub (inside sub scene.now.room) mode quoted (Dollar-F.Name name.now) at) scene.now.room at }
+{
+    shown_if_found(
+        scene,
+        mode,
+        quoted,
+        variable(scene.alloc, scene.vars, name),
+    )
+}
+
+// `$1`
+fn by_digit(scene: &Scene<'_>, mode: Mode, quoted: bool, digit: u8) -> Result<Act, Stop>
+    ensures { (sub : Sub) (at : State) → Sees scene.now at → Acts result sub (dollar_at sub (inside sub scene.now.room) mode quoted (Dollar-F.Digit digit) at) scene.now.room at }
+{
+    shown_if_found(
+        scene,
+        mode,
+        quoted,
+        positional(scene.alloc, scene.args, &[digit]),
+    )
+}
+
+/// What a dollar begins.
 pub(crate) fn dollar(
     scene: &Scene<'_>,
     mode: Mode,
@@ -70,27 +113,11 @@ pub(crate) fn dollar(
     ensures { (sub : Sub) (at : State) → Sees scene.now at → Acts result sub (dollar_at sub (inside sub scene.now.room) mode quoted (out-Dollar dollar.now) at) scene.now.room at }
 {
     match dollar {
-        Dollar::Arith(parts) => open(
-            scene,
-            Parts::Arith(parts.share()?),
-            Mode::Text,
-            Tildes::Nowhere,
-            Use::Arithmetic(quoted),
-        ),
+        Dollar::Arith(parts) => arithmetic(scene, mode, quoted, parts),
         Dollar::Command(items) => Ok(Act::Run(quoted, items.share()?)),
         Dollar::Param(found) => param(scene, mode, quoted, found),
-        Dollar::Name(name) => shown_if_found(
-            scene,
-            mode,
-            quoted,
-            variable(scene.alloc, scene.vars, name.get().as_slice()),
-        ),
-        Dollar::Digit(digit) => shown_if_found(
-            scene,
-            mode,
-            quoted,
-            positional(scene.alloc, scene.args, &[*digit]),
-        ),
+        Dollar::Name(name) => by_name(scene, mode, quoted, name.get().as_slice()),
+        Dollar::Digit(digit) => by_digit(scene, mode, quoted, *digit),
         Dollar::Special(byte) => shown_if_found(
             scene,
             mode,

@@ -1,5 +1,6 @@
 ghost use Rattle.std.specs.Prelude.{◌≡◌, IfOk};
 ghost use Rattle.shell_state.specs.State.{State};
+ghost use Rattle.eb_syntax.specs.declared.tree.AP.TheOpen.{AP-F, SubPart-F};
 ghost use Rattle.eb_syntax.specs.declared.tree.AP.{out-AP};
 ghost use Rattle.eb_syntax.specs.declared.tree.PW.{out-PW};
 ghost use Rattle.eb_syntax.specs.declared.tree.Piece.{out-Piece};
@@ -179,20 +180,27 @@ pub(crate) fn slice(scene: &Scene<'_>, part: &SW) -> Result<Act, Stop>
     }
 }
 
-/// What a part of an arithmetic text comes to.
+// Parentheses in an arithmetic text.
 #[tactic(auto, using(crate::proofs::Opened::parenthesis_opens))]
+fn parenthesis(scene: &Scene<'_>, parts: &Shared<List<AP>>) -> Result<Act, Stop>
+    ensures { (sub : Sub) (at : State) → Acts result sub (arith_at sub (inside sub scene.now.room) (AP-F.AP::Group parts.now) at) scene.now.room at }
+{
+    open(
+        scene,
+        Parts::Arith(parts.share()?),
+        Mode::Text,
+        Tildes::Nowhere,
+        Use::Parenthesis,
+    )
+}
+
+/// What a part of an arithmetic text comes to.
 pub(crate) fn arith(scene: &Scene<'_>, part: &AP) -> Result<Act, Stop>
     ensures { (sub : Sub) (at : State) → Sees scene.now at → Acts result sub (arith_at sub (inside sub scene.now.room) (out-AP part.now) at) scene.now.room at }
 {
     let alloc = scene.alloc;
     match part {
-        AP::Group(parts) => open(
-            scene,
-            Parts::Arith(parts.share()?),
-            Mode::Text,
-            Tildes::Nowhere,
-            Use::Parenthesis,
-        ),
+        AP::Group(parts) => parenthesis(scene, parts),
         AP::Dollar(found) => dollar(scene, Mode::Text, true, found),
         AP::Back(items) => Ok(Act::Run(true, items.share()?)),
         AP::Lone => Ok(Act::Give(byte(alloc, b'$')?)),
@@ -201,19 +209,26 @@ pub(crate) fn arith(scene: &Scene<'_>, part: &AP) -> Result<Act, Stop>
     }
 }
 
-/// What a part of a subscript comes to.
+// Brackets in a subscript.
 #[tactic(auto, using(crate::proofs::Opened::bracket_opens))]
+fn bracket(scene: &Scene<'_>, parts: &Shared<List<SubPart>>) -> Result<Act, Stop>
+    ensures { (sub : Sub) (at : State) → Acts result sub (subscript_at sub (inside sub scene.now.room) (SubPart-F.Sub parts.now) at) scene.now.room at }
+{
+    open(
+        scene,
+        Parts::Subscript(parts.share()?),
+        Mode::Text,
+        Tildes::Nowhere,
+        Use::Bracket,
+    )
+}
+
+/// What a part of a subscript comes to.
 pub(crate) fn subscript(scene: &Scene<'_>, part: &SubPart) -> Result<Act, Stop>
     ensures { (sub : Sub) (at : State) → Sees scene.now at → Acts result sub (subscript_at sub (inside sub scene.now.room) (out-SubPart part.now) at) scene.now.room at }
 {
     match part {
-        SubPart::Sub(parts) => open(
-            scene,
-            Parts::Subscript(parts.share()?),
-            Mode::Text,
-            Tildes::Nowhere,
-            Use::Bracket,
-        ),
+        SubPart::Sub(parts) => bracket(scene, parts),
         SubPart::Blank(found) => Ok(Act::Give(blank(scene.alloc, *found)?)),
         SubPart::Piece(found) => piece(scene, Mode::Text, found),
     }

@@ -1,4 +1,5 @@
-ghost use Rattle.std.specs.Prelude.{◌≡◌, ℤ, Some};
+ghost use Rattle.std.specs.Prelude.{◌≡◌, ℤ, Some, None};
+ghost use Rattle.std.specs.Option.{option_copied};
 ghost use Rattle.shell_state.specs.Outcome.{Doing};
 ghost use Rattle.shell_state.specs.State.{State};
 ghost use Rattle.eb_syntax.specs.Tree.{Sub as Subscript};
@@ -48,15 +49,48 @@ fn subscripted(
     }
 }
 
+// What a name without a subscript is.
+fn plain(scene: &Scene<'_>, name: &[u8]) -> Result<Referred, Stop>
+    ensures { (index : Subscript → Doing ℤ) (at : State) → Sees scene.now at → Refers result (ref.Name name.now None) index at }
+{
+    found_by(variable(scene.alloc, scene.vars, name))
+}
+
+// What a name is.
+fn named(
+    scene: &Scene<'_>,
+    name: &[u8],
+    parts: Option<&Shared<List<SubPart>>>,
+) -> Result<Referred, Stop>
+    ensures { (index : Subscript → Doing ℤ) (at : State) → Sees scene.now at → Refers result (ref.Name name.now (option_copied parts.entry)) index at }
+{
+    match parts {
+        Some(parts) => subscripted(scene, name, parts),
+        None => plain(scene, name),
+    }
+}
+
+// What a number is.
+fn numbered(scene: &Scene<'_>, digits: &[u8]) -> Result<Referred, Stop>
+    ensures { (index : Subscript → Doing ℤ) (at : State) → Sees scene.now at → Refers result (ref.Digits digits.now) index at }
+{
+    found_by(positional(scene.alloc, scene.args, digits))
+}
+
+// What a special parameter is.
+fn special_one(scene: &Scene<'_>, byte: u8) -> Result<Referred, Stop>
+    ensures { (index : Subscript → Doing ℤ) (at : State) → Sees scene.now at → Refers result (ref.Special byte) index at }
+{
+    found_by(special(scene.alloc, scene.args, scene.status, byte))
+}
+
 /// What a reference is.
-#[tactic(auto, using(crate::proofs::Refers::found_so))]
 pub(crate) fn refer(scene: &Scene<'_>, reference: &Ref) -> Result<Referred, Stop>
     ensures { (index : Subscript → Doing ℤ) (at : State) → Sees scene.now at → Refers result reference.now index at }
 {
     match reference {
-        Ref::Name(name, Some(parts)) => subscripted(scene, name.as_slice(), parts),
-        Ref::Name(name, None) => found_by(variable(scene.alloc, scene.vars, name.as_slice())),
-        Ref::Digits(digits) => found_by(positional(scene.alloc, scene.args, digits.as_slice())),
-        Ref::Special(byte) => found_by(special(scene.alloc, scene.args, scene.status, *byte)),
+        Ref::Name(name, parts) => named(scene, name.as_slice(), parts.as_ref()),
+        Ref::Digits(digits) => numbered(scene, digits.as_slice()),
+        Ref::Special(byte) => special_one(scene, *byte),
     }
 }
