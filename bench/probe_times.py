@@ -24,15 +24,20 @@ class Spent(NamedTuple):
     is_right: bool
 
 
-def run_once(program, file, answer):
-    """What one run took that reads the file"""
+def answer_to(program, file):
+    """What a run of the program that reads the file writes, none where it does not end well, and what it took"""
     file.seek(0)
     with subprocess.Popen([program], stdin=file, stdout=subprocess.PIPE) as process:
         given = process.stdout.read()
         _, status, usage = os.wait4(process.pid, 0)
         process.returncode = os.waitstatus_to_exitcode(status)
-    is_right = process.returncode == 0 and given == answer + b"\n"
-    return Spent(usage.ru_utime + usage.ru_stime, usage.ru_maxrss * 1024, is_right)
+    return given if process.returncode == 0 else None, usage
+
+
+def run_once(program, file, answer):
+    """What one run took that reads the file"""
+    given, usage = answer_to(program, file)
+    return Spent(usage.ru_utime + usage.ru_stime, usage.ru_maxrss * 1024, given == answer + b"\n")
 
 
 def best(program, runs, request, answer):

@@ -12,7 +12,7 @@ import subprocess
 import sys
 import tempfile
 
-from probe_times import hexadecimal, spent
+from probe_times import answer_to, hexadecimal
 
 FOLDERS = ["/bin", "/etc", "/lib", "/sbin", "/usr", "/opt"]
 FIRST_LINE = re.compile(rb"#!\s*(\S*/)?(env\s+)?(\S*/)?(ba|da)?sh(\s|$)")
@@ -54,10 +54,9 @@ def answer_of(program, text):
     """What the parser answers, none where the program gave no answer, and the processor seconds that it took"""
     with tempfile.TemporaryFile() as file:
         file.write(b"parse " + hexadecimal(text) + b"\n")
-        file.seek(0)
-        start = spent()
-        ran = subprocess.run([program], stdin=file, stdout=subprocess.PIPE, check=False)
-        return (ran.stdout.strip() or None) if ran.returncode == 0 else None, spent() - start
+        file.flush()
+        given, usage = answer_to(program, file)
+        return (given.strip() or None) if given is not None else None, usage.ru_utime + usage.ru_stime
 
 
 def line_of(text, answer):
