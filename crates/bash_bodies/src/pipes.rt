@@ -11,9 +11,22 @@ ghost use Rattle.eb_grammar.specs.Peg.{many};
 use crate::operators::{bar, junction, pipe_marks};
 use bash_cursor::{Cursor, LexErr};
 use bash_drafts::{AndOrDraft, Draft, JoinedDraft, PipeDraft, PipedDraft};
-use bash_reading::{or_restore, put};
+use bash_reading::{boxed, or_restore, put};
 use eb_syntax::{AndOrOf, JoinedOf, PipeOf, PipedOf};
-use sqlite_items::Items as List;
+use sqlite_items::{Boxed, Items as List};
+
+// A command, held by a pointer, so that a long list of commands takes little room.
+fn boxed_command<C: Fn(&mut Cursor<'_>) -> Result<Draft, LexErr>>(
+    c: &mut Cursor<'_>,
+    command: &C,
+) -> Result<Boxed<Draft>, LexErr>
+    requires { ReadsMarksBelow command_at (c.old.room + 1) (C.pre command.now) (C.post command.now) }
+    ensures { ReadsMarks (command_at c.old.room) c.old result c.new }
+{
+    let saved = c.save()?;
+    let draft = command(c)?;
+    Ok(or_restore!(c, saved, boxed(c.alloc(), draft)))
+}
 
 // A bar, and the command after it.
 #[tactic(auto, unfolding(eb_grammar::specs::Commands::piped))]
@@ -32,7 +45,7 @@ fn piped<
         return Err(LexErr::NoParse);
     };
     or_restore!(c, saved, lines(c));
-    let command = or_restore!(c, saved, command(c));
+    let command = or_restore!(c, saved, boxed_command(c, command));
     Ok(PipedOf { bar, command })
 }
 
@@ -60,7 +73,7 @@ fn pipe<
 {
     let saved = c.save()?;
     let marks = pipe_marks(c)?;
-    let first = or_restore!(c, saved, command(c));
+    let first = or_restore!(c, saved, boxed_command(c, command));
     let others = or_restore!(c, saved, other_commands(c, lines, command));
     Ok(PipeOf {
         marks,

@@ -11,7 +11,7 @@ ghost use Rattle.eb_grammar.specs.Peg.{many, maybe};
 
 use crate::prefixes::prefixes;
 use bash_cursor::{Cursor, LexErr, or_back};
-use bash_reading::{attempt, attempt_or_back, or_restore, put};
+use bash_reading::{attempt, attempt_or_back, fitted, or_restore, put};
 use eb_grammar::Class;
 use eb_syntax::{Assign, Prefix, Redir, Simple, Tail, TailPart, Word};
 use sqlite_items::Items as List;
@@ -44,6 +44,20 @@ fn tail_parts<
     ensures { ReadsMarks (many (commands.tail_part (inside c.old.room))) c.old result c.new }
 {
     repeat_marks!(c, tail_part(c, redir, word))
+}
+
+// The same, in no more room than they take.
+fn fitted_parts<
+    R: Fn(&mut Cursor<'_>) -> Result<Redir, LexErr>,
+    W: Fn(&mut Cursor<'_>) -> Result<Word, LexErr>,
+>(c: &mut Cursor<'_>, redir: &R, word: &W) -> Result<List<TailPart>, LexErr>
+    requires redirs { ReadsMarksBelow redir_at (c.old.room + 1) (R.pre redir.now) (R.post redir.now) }
+    requires words { ReadsBelow word_at (c.old.room + 1) (W.pre word.now) (W.post word.now) }
+    ensures { ReadsMarks (many (commands.tail_part (inside c.old.room))) c.old result c.new }
+{
+    let saved = c.save()?;
+    let found = tail_parts(c, redir, word)?;
+    Ok(or_restore!(c, saved, fitted(c.alloc(), found)))
 }
 
 // Whether a name with a bracket after it stands at the place, which begins an assignment and no word.
@@ -80,7 +94,7 @@ fn tail<
     }
     let start = c.here();
     let first = word(c)?;
-    let others = or_back!(c, start, tail_parts(c, redir, word));
+    let others = or_back!(c, start, fitted_parts(c, redir, word));
     Ok(Tail { first, others })
 }
 

@@ -5,23 +5,24 @@ ghost use Rattle.eb_grammar.specs.Fill as fill;
 
 use crate::bodies::Bodies;
 use crate::draft::{AndOrDraft, Draft, ItemDraft, JoinedDraft, PipeDraft, PipedDraft};
-use crate::lists::reversed;
+use crate::lists::{reversed, with_room};
 use eb_bytes::Memory;
 use eb_syntax::{
     AndOr, AndOrOf, Command, HereBody, Item, ItemOf, Joined, JoinedOf, Pipe, PipeOf, Piped, PipedOf,
 };
 use shared::Shared;
-use sqlite_items::Items as List;
+use sqlite_items::{Boxed, Items as List};
 use std::alloc::Global;
 
 // A command, held so that it can be shared.
 fn filled_command(
     alloc: Global,
-    draft: Draft,
+    draft: Boxed<Draft>,
     bodies: &Bodies<'_>,
 ) -> Result<Shared<Command>, Memory>
     ensures { IfOk result (λ filled. filled ≡ fill.filled_command bodies.now draft) }
 {
+    let draft = draft.into_inner();
     Ok(Shared::new(alloc, draft.filled(alloc, bodies)?)?)
 }
 
@@ -41,12 +42,12 @@ fn each_piped(
 ) -> Result<List<Piped>, Memory>
     ensures { IfOk result (λ filled. filled ≡ map (fill.filled_piped bodies.now) others) }
 {
-    let mut rest = reversed(alloc, others)?;
-    let mut found = List::new(alloc);
+    let mut rest = others;
+    let mut found = with_room(alloc, rest.len())?;
     while let Some(piped) = rest.pop() {
         found.push(filled_piped(alloc, piped, bodies)?)?;
     }
-    Ok(found)
+    reversed(alloc, found)
 }
 
 fn filled_pipe(alloc: Global, pipe: PipeDraft, bodies: &Bodies<'_>) -> Result<Pipe, Memory>
@@ -82,12 +83,12 @@ fn each_joined(
 ) -> Result<List<Joined>, Memory>
     ensures { IfOk result (λ filled. filled ≡ map (fill.filled_joined bodies.now) others) }
 {
-    let mut rest = reversed(alloc, others)?;
-    let mut found = List::new(alloc);
+    let mut rest = others;
+    let mut found = with_room(alloc, rest.len())?;
     while let Some(joined) = rest.pop() {
         found.push(filled_joined(alloc, joined, bodies)?)?;
     }
-    Ok(found)
+    reversed(alloc, found)
 }
 
 fn filled_list(alloc: Global, list: AndOrDraft, bodies: &Bodies<'_>) -> Result<AndOr, Memory>
@@ -117,12 +118,12 @@ fn each_item(
 ) -> Result<List<Item>, Memory>
     ensures { IfOk result (λ filled. filled ≡ map (fill.filled_item bodies.now) items) }
 {
-    let mut rest = reversed(alloc, items)?;
-    let mut found = List::new(alloc);
+    let mut rest = items;
+    let mut found = with_room(alloc, rest.len())?;
     while let Some(item) = rest.pop() {
         found.push(filled_item(alloc, item, bodies)?)?;
     }
-    Ok(found)
+    reversed(alloc, found)
 }
 
 /// The items of a list of commands, with the bodies that were read for it (Bash Reference Manual, "Here Documents").

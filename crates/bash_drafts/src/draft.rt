@@ -8,6 +8,7 @@ use crate::redirections::filled_decl;
 use eb_bytes::Memory;
 use eb_syntax::{AndOrOf, Command, CoprocOf, Decl, FuncDefOf, ItemOf, JoinedOf, PipeOf, PipedOf};
 use shared::Shared;
+use sqlite_items::Boxed;
 use std::alloc::Global;
 use std::marker::Model;
 
@@ -20,11 +21,11 @@ pub type AndOrDraft = AndOrOf<PipeDraft>;
 /// A Pipe after `&&` or `||`, whose commands are drafts.
 pub type JoinedDraft = JoinedOf<PipeDraft>;
 
-/// A Pipe whose commands are drafts.
-pub type PipeDraft = PipeOf<Draft>;
+/// A Pipe whose commands are drafts. Each is held by a pointer, so that a long list of commands takes little room.
+pub type PipeDraft = PipeOf<Boxed<Draft>>;
 
 /// A draft after a bar.
-pub type PipedDraft = PipedOf<Draft>;
+pub type PipedDraft = PipedOf<Boxed<Draft>>;
 
 // What a command may be.
 enum DraftKind {

@@ -5,7 +5,7 @@ ghost use Rattle.std.specs.Option.{unwrap_or};
 ghost use Rattle.eb_grammar.specs.Fill as fill;
 
 use crate::bodies::Bodies;
-use crate::lists::reversed;
+use crate::lists::{reversed, with_room};
 use eb_bytes::{Bytes, Memory};
 use eb_syntax::{Argument, Decl, Prefix, Redir, Simple, Tail, TailPart};
 use sqlite_items::Items as List;
@@ -53,12 +53,12 @@ pub fn filled_redirs(
 ) -> Result<List<Redir>, Memory>
     ensures { IfOk result (λ filled. filled ≡ map (fill.filled_redir bodies.now) redirs) }
 {
-    let mut rest = reversed(alloc, redirs)?;
-    let mut found = List::new(alloc);
+    let mut rest = redirs;
+    let mut found = with_room(alloc, rest.len())?;
     while let Some(redir) = rest.pop() {
         found.push(filled_redir(alloc, redir, bodies)?)?;
     }
-    Ok(found)
+    reversed(alloc, found)
 }
 
 // What stands before a command's name.
@@ -80,12 +80,12 @@ fn filled_prefixes(
 ) -> Result<List<Prefix>, Memory>
     ensures { IfOk result (λ filled. filled ≡ map (fill.filled_prefix bodies.now) prefixes) }
 {
-    let mut rest = reversed(alloc, prefixes)?;
-    let mut found = List::new(alloc);
+    let mut rest = prefixes;
+    let mut found = with_room(alloc, rest.len())?;
     while let Some(prefix) = rest.pop() {
         found.push(filled_prefix(alloc, prefix, bodies)?)?;
     }
-    Ok(found)
+    reversed(alloc, found)
 }
 
 // What stands after the name of a declaration.
@@ -112,12 +112,12 @@ fn filled_arguments(
 ) -> Result<List<Argument>, Memory>
     ensures { IfOk result (λ filled. filled ≡ map (fill.filled_argument bodies.now) arguments) }
 {
-    let mut rest = reversed(alloc, arguments)?;
-    let mut found = List::new(alloc);
+    let mut rest = arguments;
+    let mut found = with_room(alloc, rest.len())?;
     while let Some(argument) = rest.pop() {
         found.push(filled_argument(alloc, argument, bodies)?)?;
     }
-    Ok(found)
+    reversed(alloc, found)
 }
 
 // What stands after a command's name.
@@ -139,12 +139,12 @@ fn filled_parts(
 ) -> Result<List<TailPart>, Memory>
     ensures { IfOk result (λ filled. filled ≡ map (fill.filled_part bodies.now) parts) }
 {
-    let mut rest = reversed(alloc, parts)?;
-    let mut found = List::new(alloc);
+    let mut rest = parts;
+    let mut found = with_room(alloc, rest.len())?;
     while let Some(part) = rest.pop() {
         found.push(filled_part(alloc, part, bodies)?)?;
     }
-    Ok(found)
+    reversed(alloc, found)
 }
 
 #[tactic(auto, unfolding(eb_grammar::specs::Fill::filled_tail))]

@@ -9,7 +9,7 @@ ghost use Rattle.eb_grammar.specs.Words as words;
 ghost use Rattle.eb_syntax.specs.Tree.{word_of_pieces};
 
 use bash_cursor::{Cursor, LexErr, or_back};
-use bash_reading::put;
+use bash_reading::{list_with, put};
 use eb_syntax::{Piece, Word};
 use sqlite_items::Items as List;
 use std::alloc::Global;
@@ -18,10 +18,7 @@ use std::alloc::Global;
 fn word_with(alloc: Global, first: Piece, others: List<Piece>) -> Result<Word, LexErr>
     ensures { MatchResult result (λ word. word ≡ word_of_pieces (first ∷ others)) (λ e. e ≡ LexErr.Memory) }
 {
-    let mut pieces = List::new(alloc);
-    pieces.push(first)?;
-    pieces.append(others)?;
-    Ok(Word::of(alloc, pieces)?)
+    Ok(Word::of(alloc, list_with(alloc, first, others)?)?)
 }
 
 #[tactic(auto, using(bash_cursor::proofs::Turns::turn_go, bash_cursor::proofs::Turns::turn_no, bash_cursor::proofs::Turns::turn_deep, bash_cursor::proofs::Turns::turn_out))]

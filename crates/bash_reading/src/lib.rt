@@ -139,5 +139,5 @@ mod lists;
 mod words;
 
 pub use blanks::{sees_blank, some_blanks};
-pub use lists::{boxed, list_with, put, shared};
+pub use lists::{boxed, fitted, list_with, put, shared};
 pub use words::{may_eat, reserved_word};

@@ -18,17 +18,30 @@ pub fn put<T: Drop>(list: &mut List<T>, item: T) -> Result<(), LexErr>
     Ok(())
 }
 
-/// An element and those after it.
+/// An element and those after it, in no more room than they take.
 ///
 /// # Errors
 /// `Memory` where there is no room for them.
 pub fn list_with<T: Drop>(alloc: Global, first: T, others: List<T>) -> Result<List<T>, LexErr>
     ensures { MatchResult result (λ list. list ≡ first ∷ others) (λ e. e ≡ LexErr.Memory) }
 {
-    let mut list = List::new(alloc);
+    let room = others.len().saturating_add(1);
+    let mut list = List::from_vec(Vec::with_capacity(alloc, room)?);
     list.push(first)?;
     list.append(others)?;
     Ok(list)
+}
+
+/// The same elements, in no more room than they take.
+///
+/// # Errors
+/// `Memory` where there is no room for them.
+pub fn fitted<T: Drop>(alloc: Global, list: List<T>) -> Result<List<T>, LexErr>
+    ensures { MatchResult result (λ fitted. fitted ≡ list) (λ e. e ≡ LexErr.Memory) }
+{
+    let mut fitted = List::from_vec(Vec::with_capacity(alloc, list.len())?);
+    fitted.append(list)?;
+    Ok(fitted)
 }
 
 /// The value, held so that it can be shared.

@@ -4,7 +4,7 @@ use Rattle.eb_grammar.specs.Fill.{filled_piped}
 use Rattle.bash_drafts.proofs.commands.each_piped.Given as goal
 
 abbrev pub invariant-loop-piped : goal.invariant-loop-piped
-invariant-loop-piped l = l.found ++ map (filled_piped l.bodies) (reverse l.rest) ≡ map (filled_piped l.bodies) l.fn.others
+invariant-loop-piped l = map (filled_piped l.bodies) l.rest ++ reverse l.found ≡ map (filled_piped l.bodies) l.fn.others
 
 abbrev pub decreases-loop-piped : goal.decreases-loop-piped
 decreases-loop-piped l = length l.rest
