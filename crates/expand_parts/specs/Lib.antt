@@ -1,0 +1,4 @@
+pub mod Acts
+pub mod Deeds
+pub mod Params
+pub mod Rest
