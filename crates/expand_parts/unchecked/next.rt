@@ -1,4 +1,4 @@
-ghost use Rattle.std.specs.Prelude.{◌≡◌, drop};
+ghost use Rattle.std.specs.Prelude.{◌≡◌, ◌∷◌, [], drop, IfNone, IfSome};
 ghost use Rattle.shell_state.specs.State.{State};
 ghost use Rattle.word_meaning.specs.Tilde.{home as home_in};
 ghost use Rattle.expand_parts.specs.Acts.{Acts, Sees};
@@ -35,6 +35,25 @@ fn items_from<T>(items: &[T], at: usize) -> &[T]
     }
 }
 
+// The first item of a list, and those behind it.
+fn split_first<T>(items: &[T]) -> Option<(&T, &[T])>
+    ensures some { IfSome result (λ split. items.now ≡ split.0.now ∷ split.1.now) }
+    ensures none { IfNone result (items.now ≡ []) }
+{
+    match items {
+        [first, behind @ ..] => Some((first, behind)),
+        [] => None,
+    }
+}
+
+// The item at a place of a list, and those behind it.
+fn item_at<T>(items: &[T], at: usize) -> Option<(&T, &[T])>
+    ensures some { IfSome result (λ split. drop at items.now ≡ split.0.now ∷ split.1.now) }
+    ensures none { IfNone result (drop at items.now ≡ []) }
+{
+    split_first(items_from(items, at))
+}
+
 // HOME in the place of a part.
 fn home_act(scene: &Scene<'_>) -> Result<Act, Stop>
     ensures { (sub : Sub) (at : State) → Sees scene.now at → Acts result sub (home_in at) scene.now.room at }
@@ -57,7 +76,7 @@ fn after(act: Result<Act, Stop>, may_be_home: bool) -> Result<Option<Next>, Stop
 fn next_piece(scene: &Scene<'_>, level: &Level, pieces: &[Piece]) -> Result<Option<Next>, Stop>
     ensures { Nexts result scene.now level.now (of.Pieces pieces.now) }
 {
-    let [found, behind @ ..] = items_from(pieces, level.at) else {
+    let Some((found, behind)) = item_at(pieces, level.at) else {
         return Ok(None);
     };
     let may = may_follow(level.tildes, level.may_be_home, sign_of_piece(found));
@@ -72,7 +91,7 @@ fn next_piece(scene: &Scene<'_>, level: &Level, pieces: &[Piece]) -> Result<Opti
 fn next_operand(scene: &Scene<'_>, level: &Level, parts: &[PW]) -> Result<Option<Next>, Stop>
     ensures { Nexts result scene.now level.now (of.Operand parts.now) }
 {
-    let [found, behind @ ..] = items_from(parts, level.at) else {
+    let Some((found, behind)) = item_at(parts, level.at) else {
         return Ok(None);
     };
     let may = may_follow(level.tildes, level.may_be_home, sign_of_operand(found));
@@ -87,9 +106,9 @@ fn next_operand(scene: &Scene<'_>, level: &Level, parts: &[PW]) -> Result<Option
 fn next_quoted(scene: &Scene<'_>, level: &Level, parts: &[QPiece]) -> Result<Option<Next>, Stop>
     ensures { Nexts result scene.now level.now (of.Quoted parts.now) }
 {
-    match items_from(parts, level.at) {
-        [found, ..] => after(quoted(scene, level.mode, found), level.may_be_home),
-        [] => Ok(None),
+    match item_at(parts, level.at) {
+        Some((found, _)) => after(quoted(scene, level.mode, found), level.may_be_home),
+        None => Ok(None),
     }
 }
 
@@ -98,9 +117,9 @@ fn next_quoted(scene: &Scene<'_>, level: &Level, parts: &[QPiece]) -> Result<Opt
 fn next_slice(scene: &Scene<'_>, level: &Level, parts: &[SW]) -> Result<Option<Next>, Stop>
     ensures { Nexts result scene.now level.now (of.Slice parts.now) }
 {
-    match items_from(parts, level.at) {
-        [found, ..] => after(slice(scene, found), level.may_be_home),
-        [] => Ok(None),
+    match item_at(parts, level.at) {
+        Some((found, _)) => after(slice(scene, found), level.may_be_home),
+        None => Ok(None),
     }
 }
 
@@ -109,9 +128,9 @@ fn next_slice(scene: &Scene<'_>, level: &Level, parts: &[SW]) -> Result<Option<N
 fn next_arith(scene: &Scene<'_>, level: &Level, parts: &[AP]) -> Result<Option<Next>, Stop>
     ensures { Nexts result scene.now level.now (of.Arith parts.now) }
 {
-    match items_from(parts, level.at) {
-        [found, ..] => after(arith(scene, found), level.may_be_home),
-        [] => Ok(None),
+    match item_at(parts, level.at) {
+        Some((found, _)) => after(arith(scene, found), level.may_be_home),
+        None => Ok(None),
     }
 }
 
@@ -120,9 +139,9 @@ fn next_arith(scene: &Scene<'_>, level: &Level, parts: &[AP]) -> Result<Option<N
 fn next_subscript(scene: &Scene<'_>, level: &Level, parts: &[SubPart]) -> Result<Option<Next>, Stop>
     ensures { Nexts result scene.now level.now (of.Subscript parts.now) }
 {
-    match items_from(parts, level.at) {
-        [found, ..] => after(subscript(scene, found), level.may_be_home),
-        [] => Ok(None),
+    match item_at(parts, level.at) {
+        Some((found, _)) => after(subscript(scene, found), level.may_be_home),
+        None => Ok(None),
     }
 }
 
@@ -131,9 +150,9 @@ fn next_subscript(scene: &Scene<'_>, level: &Level, parts: &[SubPart]) -> Result
 fn next_group(scene: &Scene<'_>, level: &Level, parts: &[GroupPart]) -> Result<Option<Next>, Stop>
     ensures { Nexts result scene.now level.now (of.Group parts.now) }
 {
-    match items_from(parts, level.at) {
-        [found, ..] => after(group_part(scene, level.mode, found), level.may_be_home),
-        [] => Ok(None),
+    match item_at(parts, level.at) {
+        Some((found, _)) => after(group_part(scene, level.mode, found), level.may_be_home),
+        None => Ok(None),
     }
 }
 
