@@ -5,4 +5,5 @@ pub mod OpenedMore
 pub mod Params
 pub mod Refers
 pub mod Refused
+pub mod Taken
 pub mod Values

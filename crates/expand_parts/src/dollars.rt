@@ -32,7 +32,10 @@ use sqlite_items::Items as List;
 use word_meaning::{Mode, Tildes};
 
 /// What is found, as its text or its elements.
-pub(crate) fn shown_act(
+///
+/// # Errors
+/// `Memory` where there is no room for it.
+pub fn shown_act(
     scene: &Scene<'_>,
     mode: Mode,
     quoted: bool,

@@ -5,10 +5,13 @@
 mod dollars;
 mod leaves;
 mod level;
+mod next;
 mod operators;
 mod refer;
 mod references;
 mod scene;
 
+pub use dollars::{found_act, pointed_act, pointed_to, shown_act};
 pub use level::{Act, Level, Parts, Target, Use};
+pub use next::{Next, take_next};
 pub use scene::Scene;
