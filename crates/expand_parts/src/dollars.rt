@@ -35,12 +35,7 @@ use word_meaning::{Mode, Tildes};
 ///
 /// # Errors
 /// `Memory` where there is no room for it.
-pub fn shown_act(
-    scene: &Scene<'_>,
-    mode: Mode,
-    quoted: bool,
-    found: &Found,
-) -> Result<Act, Stop>
+pub fn shown_act(scene: &Scene<'_>, mode: Mode, quoted: bool, found: &Found) -> Result<Act, Stop>
     ensures { (sub : Sub) (at : State) → Sees scene.now at → Acts result sub (shown mode quoted (found_of found.now) at) scene.now.room at }
 {
     Ok(Act::Give(show(scene.alloc, scene.vars, mode, quoted, found)?))
@@ -86,12 +81,7 @@ fn arithmetic(
 fn by_name(scene: &Scene<'_>, mode: Mode, quoted: bool, name: &[u8]) -> Result<Act, Stop>
     ensures { (sub : Sub) (at : State) → Sees scene.now at → Acts result sub (dollar_at sub (inside sub scene.now.room) mode quoted (Dollar-F.Name name.now) at) scene.now.room at }
 {
-    shown_if_found(
-        scene,
-        mode,
-        quoted,
-        variable(scene.alloc, scene.vars, name),
-    )
+    shown_if_found(scene, mode, quoted, variable(scene.alloc, scene.vars, name))
 }
 
 // `$1`

@@ -1,5 +1,4 @@
 use Rattle.std.proofs.Common.{◌≡◌, rules}
-use Rattle.std.specs.Option.{option_copied}
 use Rattle.eb_syntax.specs.declared.tree.AP.TheOpen.{Param-F}
 use Rattle.eb_syntax.specs.declared.tree.Param.{out-Param, the_lemmas}
 use Rattle.word_meaning.specs.Words.{index, inside}
