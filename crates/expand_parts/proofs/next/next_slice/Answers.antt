@@ -1,0 +1,7 @@
+use Rattle.expand_parts.proofs.Taken.{slice_taken}
+use Rattle.expand_parts.proofs.next.next_slice.Goals as goal
+
+pub returns-in-Some : goal.returns-in-Some
+returns-in-Some c sub g at s =
+    slice_taken c.slice.result c.after.result sub c.args.scene.now.room c.args.level.now g at c.args.parts.now c.in-Some.found.now c.in-Some.field-0-1.now
+    c.in-Some.ensures.some c.after.ensures (c.slice.ensures sub at s)

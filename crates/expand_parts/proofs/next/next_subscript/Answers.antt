@@ -1,0 +1,7 @@
+use Rattle.expand_parts.proofs.Taken.{subscript_taken}
+use Rattle.expand_parts.proofs.next.next_subscript.Goals as goal
+
+pub returns-in-Some : goal.returns-in-Some
+returns-in-Some c sub g at s =
+    subscript_taken c.subscript.result c.after.result sub c.args.scene.now.room c.args.level.now g at c.args.parts.now c.in-Some.found.now c.in-Some.field-0-1.now
+    c.in-Some.ensures.some c.after.ensures (c.subscript.ensures sub at s)
