@@ -4,7 +4,7 @@
 Times reading scripts of SIZE bytes and of four times that, as probe_times.py says: short commands, one long function,
 nested `if`, one `case`, here-documents that wait on one line, and much that opens and never closes. Ends with 1 where an
 answer is wrong, or where a case takes more than a second for each SIZE bytes or more than ROOM bytes of memory for each
-byte of the script. So it ends with 1 today: commands of 4 bytes take up to 303.
+byte of the script.
 """
 import sys
 
