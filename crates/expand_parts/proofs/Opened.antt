@@ -1,12 +1,12 @@
 -- A part that is opened is a level behind the others.
-use Rattle.std.proofs.Common.{◌≡◌, ℕ, ◌+◌, ◌-◌, ◌<◌, ◌≤◌, Bool, List, [], ◌∷◌, drop, Result, Ok, Err, refl, sym, ap, ◌∙◌}
+use Rattle.std.proofs.Common.{◌≡◌, ℕ, ◌-◌, List, [], ◌∷◌, Result, Ok, Err, refl, sym, ap, ◌∙◌}
 use Rattle.eb_syntax.specs.Tree.{GroupPart}
 use Rattle.eb_syntax.specs.declared.tree.AP.{AP}
 use Rattle.eb_syntax.specs.declared.tree.PW.{PW}
 use Rattle.eb_syntax.specs.declared.tree.QPiece.{QPiece}
 use Rattle.eb_syntax.specs.declared.tree.SW.{SW}
 use Rattle.eb_syntax.specs.declared.tree.SubPart.{SubPart}
-use Rattle.shell_state.specs.Outcome.{Doing, Outcome, Ended, Faulted, ◌>>=◌, ◌<$>◌, and_then, pure}
+use Rattle.shell_state.specs.Outcome.{Doing, Outcome, Faulted, ◌<$>◌, and_then, pure}
 use Rattle.shell_state.specs.State.{State}
 use Rattle.shell_state.specs.declared.stop.Stop.{Stop}
 use Rattle.shell_state.specs.declared.stop.Stop.TheVariants as stop
@@ -19,7 +19,6 @@ use Rattle.word_meaning.specs.declared.mode.Tildes.TheVariants as tildes
 use Rattle.expand_parts.specs.Acts.{Acts, Opens, level_of}
 use Rattle.expand_parts.specs.Rest.{Sub, acted, ended, from_here}
 use Rattle.expand_parts.specs.declared.level.Act.{Act}
-use Rattle.expand_parts.specs.declared.level.Act.TheVariants as act
 use Rattle.expand_parts.specs.declared.level.Parts.{Parts as Open}
 use Rattle.expand_parts.specs.declared.level.Parts.TheVariants as of
 use Rattle.expand_parts.specs.declared.level.Use.{Use}

@@ -1,6 +1,5 @@
 -- The words of operators, subscripts, slices and arithmetic texts that are opened.
-use Rattle.std.proofs.Common.{◌≡◌, ℕ, ℤ, Bool, true, false, List, [], ◌∷◌, Option, Some, None, Result, refl, sym, ap, ◌∙◌}
-use Rattle.std.specs.Prelude.{if◌then◌else◌}
+use Rattle.std.proofs.Common.{◌≡◌, ℕ, ℤ, Bool, true, false, List, [], ◌∷◌, Option, Result, refl, ◌∙◌}
 use Rattle.bash_arith.specs.Numbers.{number_text}
 use Rattle.eb_bytes.specs.Text.{Text}
 use Rattle.eb_syntax.specs.declared.parts.CaseOp.{CaseOp}
@@ -12,12 +11,11 @@ use Rattle.eb_syntax.specs.declared.tree.PW.{PW}
 use Rattle.eb_syntax.specs.declared.tree.Param.{Param, out-Param}
 use Rattle.eb_syntax.specs.declared.tree.SW.{SW}
 use Rattle.eb_syntax.specs.declared.tree.SubPart.{SubPart}
-use Rattle.shell_state.specs.Outcome.{Doing, Outcome, ◌>>=◌, ◌<$>◌, and_then, pure, refuse}
+use Rattle.shell_state.specs.Outcome.{Doing, Outcome, ◌>>=◌, ◌<$>◌, and_then, refuse}
 use Rattle.shell_state.specs.State.{State}
 use Rattle.shell_state.specs.declared.fault.Fault.TheVariants as fault
 use Rattle.shell_state.specs.declared.stop.Stop.{Stop}
 use Rattle.word_meaning.specs.Marks.{Given, bytes_of, emitted, given}
-use Rattle.word_meaning.specs.References.{Found}
 use Rattle.word_meaning.specs.Words.{assigned_value, index, inside, number_of, op_at, opened, operand_text, operand_value}
 use Rattle.word_meaning.specs.declared.mode.Mode.{Mode}
 use Rattle.word_meaning.specs.declared.mode.Mode.TheVariants as mode

@@ -7,12 +7,11 @@ use Rattle.eb_syntax.specs.declared.tree.Op.{Op}
 use Rattle.eb_syntax.specs.declared.tree.AP.TheOpen.{Param-F}
 use Rattle.eb_syntax.specs.declared.tree.Param.{Param, out-Param}
 use Rattle.eb_syntax.specs.declared.tree.SubPart.{SubPart}
-use Rattle.shell_state.specs.Outcome.{Doing, Outcome, Ended, Faulted, ◌>>=◌, and_then}
+use Rattle.shell_state.specs.Outcome.{Outcome, ◌>>=◌, and_then}
 use Rattle.shell_state.specs.State.{State}
 use Rattle.shell_state.specs.declared.stop.Stop.{Stop}
 use Rattle.shell_state.specs.declared.stop.Stop.TheVariants as stop
 use Rattle.word_meaning.specs.Layers.{ParamLayer}
-use Rattle.word_meaning.specs.Marks.{Given}
 use Rattle.word_meaning.specs.Operators.{shown, with_indices}
 use Rattle.word_meaning.specs.References.{Found, name_of, referred, text_found}
 use Rattle.word_meaning.specs.Words.{asks_indices, index, indirect, inside, param_at, pointed}

@@ -1,15 +1,15 @@
 -- What a reference is, by what is looked for.
-use Rattle.std.proofs.Common.{◌≡◌, ℤ, Bool, List, Option, Some, None, Result, Ok, Err, refl, sym, ap, subst, ◌∙◌}
+use Rattle.std.proofs.Common.{◌≡◌, ℤ, Bool, List, Some, None, Result, Ok, Err, sym, ap, subst}
 use Rattle.eb_bytes.specs.Text.{Text}
 use Rattle.eb_syntax.specs.Tree.{Ref}
 use Rattle.eb_syntax.specs.declared.parts.RefOf.TheVariants as ref
 use Rattle.eb_syntax.specs.declared.tree.SubPart.{SubPart}
-use Rattle.shell_state.specs.Outcome.{Doing, Outcome, Ended, Faulted}
+use Rattle.shell_state.specs.Outcome.{Doing}
 use Rattle.shell_state.specs.State.{State}
 use Rattle.shell_state.specs.declared.stop.Stop.{Stop}
 use Rattle.shell_state.specs.declared.stop.Stop.TheVariants as stop
 use Rattle.word_meaning.specs.References.{referred, star_of, subscripted}
-use Rattle.expand_values.specs.Seen.{Finds, found_of}
+use Rattle.expand_values.specs.Seen.{Finds}
 use Rattle.expand_values.specs.declared.found.Found.{Found}
 use Rattle.expand_parts.specs.Params.{IsFoundBy, Refers}
 use Rattle.expand_parts.specs.declared.refer.Referred.{Referred}

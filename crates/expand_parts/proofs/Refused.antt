@@ -1,5 +1,5 @@
 -- Parts of a word that are refused.
-use Rattle.std.proofs.Common.{◌≡◌, ℕ, Bool, true, false, Ok, Err, refl, sym, ap, subst, ◌∙◌}
+use Rattle.std.proofs.Common.{◌≡◌, ℕ, Bool, true, false, Ok, Err, sym, ap, subst, ◌∙◌}
 use Rattle.std.specs.Prelude.{codes, if◌then◌else◌}
 use Rattle.eb_bytes.specs.Text.{Text}
 use Rattle.eb_grammar.specs.AnsiText.{ansi_text, has_refused_escape}

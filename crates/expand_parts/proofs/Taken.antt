@@ -1,6 +1,6 @@
 -- The next part of a level is taken.
-use Rattle.std.proofs.Common.{◌≡◌, ℕ, zero, suc, ◌+◌, ◌<◌, ◌≤◌, Bool, true, false, List, [], ◌∷◌, drop, map, length, Option, Some, None, Result, Ok, Err, refl, sym, ap, subst, ◌∙◌, arith}
-use Rattle.std.specs.Prelude.{◌&&◌, if◌then◌else◌}
+use Rattle.std.proofs.Common.{◌≡◌, ℕ, zero, suc, ◌+◌, Bool, true, false, List, [], ◌∷◌, drop, map, Option, None, Result, Ok, Err, sym, ap, subst, ◌∙◌, arith}
+use Rattle.std.specs.Prelude.{◌&&◌}
 use Rattle.eb_syntax.specs.Tree.{GroupPart}
 use Rattle.eb_syntax.specs.declared.tree.AP.{AP, out-AP}
 use Rattle.eb_syntax.specs.declared.tree.PW.{PW, out-PW}
@@ -8,18 +8,16 @@ use Rattle.eb_syntax.specs.declared.tree.Piece.{Piece, out-Piece}
 use Rattle.eb_syntax.specs.declared.tree.QPiece.{QPiece, out-QPiece}
 use Rattle.eb_syntax.specs.declared.tree.SW.{SW, out-SW}
 use Rattle.eb_syntax.specs.declared.tree.SubPart.{SubPart, out-SubPart}
-use Rattle.shell_state.specs.Outcome.{Doing, Outcome, Ended, Faulted, and_then}
+use Rattle.shell_state.specs.Outcome.{Doing, and_then}
 use Rattle.shell_state.specs.State.{State}
 use Rattle.shell_state.specs.declared.stop.Stop.{Stop}
 use Rattle.shell_state.specs.declared.stop.Stop.TheVariants as stop
 use Rattle.word_meaning.specs.Marks.{Given, followed}
-use Rattle.word_meaning.specs.Tilde.{Sign, ends_tilde, home, home_or, homes, is_tilde, may_follow, operand_sign, sign}
+use Rattle.word_meaning.specs.Tilde.{Sign, ends_tilde, home, home_or, is_tilde, may_follow, operand_sign, sign}
 use Rattle.word_meaning.specs.Words.{arith_at, each_from, group_at, inside, operand_at, piece_at, quoted_at, slice_at, subscript_at}
-use Rattle.word_meaning.specs.declared.mode.Mode.{Mode}
-use Rattle.word_meaning.specs.declared.mode.Tildes.{Tildes}
 use Rattle.expand_parts.specs.Acts.{Acts}
 use Rattle.expand_parts.specs.Nexts.{Goes, IsAfter}
-use Rattle.expand_parts.specs.Rest.{Sub, acted, flagged, going}
+use Rattle.expand_parts.specs.Rest.{Sub, flagged, going}
 use Rattle.expand_parts.specs.declared.level.Act.{Act}
 use Rattle.expand_parts.specs.declared.level.Level.{Level}
 use Rattle.expand_parts.specs.declared.level.Parts.{Parts as Open}

@@ -1,27 +1,16 @@
 -- What one part of a word comes to.
-use Rattle.std.specs.Prelude.{◌≡◌, ℕ, ℤ, ◌<◌, ◌≤◌, Bool, true, false, List, [], ◌∷◌, Option, Result, Ok, Err}
+use Rattle.std.specs.Prelude.{◌≡◌, ℕ, ◌<◌, false, [], Result, Ok, Err}
 use Rattle.eb_bytes.specs.Text.{Text}
-use Rattle.eb_syntax.specs.Tree.{GroupPart, Ref}
-use Rattle.eb_syntax.specs.declared.tree.AP.TheOpen.{Param-F}
-use Rattle.eb_syntax.specs.declared.tree.PW.{PW}
-use Rattle.eb_syntax.specs.declared.tree.SubPart.{SubPart}
-use Rattle.shell_state.specs.Outcome.{Doing, Outcome, Ended, Faulted, ◌>>=◌, ◌<$>◌, left_of, refuse}
+use Rattle.shell_state.specs.Outcome.{Outcome, Faulted}
 use Rattle.shell_state.specs.State.{State}
 use Rattle.shell_state.specs.declared.fault.Fault.TheVariants as fault
 use Rattle.shell_state.specs.declared.stop.Stop.{Stop}
 use Rattle.shell_state.specs.declared.stop.Stop.TheVariants as stop
-use Rattle.word_meaning.specs.Laws.{SubstitutionsLast}
-use Rattle.word_meaning.specs.Layers.{ParamLayer}
 use Rattle.word_meaning.specs.Marks as meaning
-use Rattle.word_meaning.specs.Operators as meaning_of
-use Rattle.word_meaning.specs.References.{Place, name_of, referred}
 use Rattle.word_meaning.specs.Tilde.{may_begin}
-use Rattle.word_meaning.specs.Words.{Parts, assigned_value, enclosed, opened, operand_text}
 use Rattle.word_meaning.specs.declared.mode.Mode.{Mode}
 use Rattle.word_meaning.specs.declared.mode.Tildes.{Tildes}
-use Rattle.word_meaning.specs.declared.mode.Tildes.TheVariants as tildes
 use Rattle.expand_parts.specs.Rest.{Sub, acted}
-use Rattle.expand_values.specs.Seen.{element_at, found_of}
 use Rattle.expand_parts.specs.declared.level.Act.{Act}
 use Rattle.expand_parts.specs.declared.level.Act.TheVariants as act
 use Rattle.expand_parts.specs.declared.level.Level.{Level}

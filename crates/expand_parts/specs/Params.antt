@@ -1,5 +1,5 @@
 -- What a parameter looks for, and what its reference finds.
-use Rattle.std.specs.Prelude.{◌≡◌, ℤ, Bool, List, Result, Ok, Err}
+use Rattle.std.specs.Prelude.{◌≡◌, ℤ, List, Result, Ok, Err}
 use Rattle.eb_syntax.specs.Tree.{Ref}
 use Rattle.eb_syntax.specs.declared.tree.AP.TheOpen.{Param-F}
 use Rattle.eb_syntax.specs.declared.tree.SubPart.{SubPart}

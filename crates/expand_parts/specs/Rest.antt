@@ -1,36 +1,28 @@
 -- What is left of words that are expanded in part, as the meaning of words has it.
-use Rattle.std.specs.Prelude.{ℕ, ℤ, ◌-◌, Bool, true, false, List, [], ◌∷◌, ◌++◌, codes, decimal, drop, length, map, Option, Some, None, if◌then◌else◌}
-use Rattle.std.specs.List.{flat_map, zip}
+use Rattle.std.specs.Prelude.{ℕ, ◌-◌, Bool, List, [], ◌∷◌, codes, decimal, drop, map, Option, Some, None, if◌then◌else◌}
+use Rattle.std.specs.List.{zip}
 use Rattle.bash_arith.specs.Numbers.{number_text}
 use Rattle.bash_patterns.specs.Reading.{pattern_of}
 use Rattle.eb_bytes.specs.Text.{Text}
 use Rattle.eb_grammar.specs.Grammar.{whole_ref}
 use Rattle.eb_syntax.specs.Tree.{Ref}
-use Rattle.eb_syntax.specs.declared.parts.CaseOp.{CaseOp}
-use Rattle.eb_syntax.specs.declared.parts.ReplaceOp.{ReplaceOp}
 use Rattle.eb_syntax.specs.declared.tree.AP.TheOpen.{Param-F}
 use Rattle.eb_syntax.specs.declared.tree.AP.{out-AP}
 use Rattle.eb_syntax.specs.declared.tree.Items.{Items}
-use Rattle.eb_syntax.specs.declared.tree.Op.{Op}
-use Rattle.eb_syntax.specs.declared.tree.PW.{PW, out-PW}
-use Rattle.eb_syntax.specs.declared.tree.Param.{Param, out-Param}
+use Rattle.eb_syntax.specs.declared.tree.PW.{out-PW}
+use Rattle.eb_syntax.specs.declared.tree.Param.{out-Param}
 use Rattle.eb_syntax.specs.declared.tree.Piece.{out-Piece}
 use Rattle.eb_syntax.specs.declared.tree.QPiece.{out-QPiece}
-use Rattle.eb_syntax.specs.declared.tree.SW.{SW, out-SW}
+use Rattle.eb_syntax.specs.declared.tree.SW.{out-SW}
 use Rattle.eb_syntax.specs.declared.tree.SubPart.{out-SubPart}
 use Rattle.shell_marks.specs.declared.marked.Mark.TheVariants.{Literal}
-use Rattle.shell_marks.specs.Marks.{unquoted}
-use Rattle.shell_state.specs.Outcome.{Doing, Outcome, ◌>>=◌, ◌>>◌, ◌<$>◌, and_then, pure, refuse}
+use Rattle.shell_state.specs.Outcome.{Doing, ◌>>=◌, ◌<$>◌, pure, refuse}
 use Rattle.shell_state.specs.declared.fault.Fault.TheVariants as fault
 use Rattle.word_meaning.specs.Layers.{ParamLayer}
-use Rattle.word_meaning.specs.Limits.{all_fields, one_text}
-use Rattle.word_meaning.specs.Lists.{all_of, row_of, split_words}
-use Rattle.word_meaning.specs.Marks.{Given, Marks, as_value, bytes_of, emitted, followed, given, in_quotes}
-use Rattle.word_meaning.specs.Operators.{case_pattern, changes_case, compiled, formed, length_of, replaces, shown, slices, strips}
-use Rattle.word_meaning.specs.Pathnames.{pathname}
+use Rattle.word_meaning.specs.Marks.{Given, as_value, bytes_of, emitted, given, in_quotes}
+use Rattle.word_meaning.specs.Operators.{changes_case, compiled, formed, length_of, replaces, shown, slices, strips}
 use Rattle.word_meaning.specs.References.{Found, name_of, referred}
 use Rattle.word_meaning.specs.Tilde.{Sign, home_or, homes, operand_sign, sign}
-use Rattle.word_meaning.specs.Words as words
 use Rattle.word_meaning.specs.Words.{Parts, arith_at, asks_indices, assigned_value, each_from, enclosed, group_at, index, indirect, inside, number_of, operand_at, operated, piece_at, quoted_at, replacement, slice_at, slice_length, subscript_at, substituted}
 use Rattle.word_meaning.specs.declared.mode.Mode.{Mode}
 use Rattle.word_meaning.specs.declared.mode.Tildes.{Tildes}
