@@ -1,0 +1,185 @@
+ghost use Rattle.std.specs.Prelude.{◌≡◌, ◌+◌, ◌≤◌, None, Some, [], ◌∷◌, IfOk, if◌then◌else◌};
+ghost use Rattle.shell_marks.specs.declared.marked.Mark.TheVariants.{Literal};
+ghost use Rattle.shell_state.specs.Outcome.{Outcome, ◌>>=◌, and_then};
+ghost use Rattle.shell_state.specs.Spending.{left};
+ghost use Rattle.shell_state.specs.State.{State};
+ghost use Rattle.word_meaning.specs.Operators.{changes_case, strips};
+ghost use Rattle.word_meaning.specs.References as refs;
+ghost use Rattle.word_meaning.specs.Words.{inside};
+ghost use Rattle.expand_marks.specs.Seen.{given_of};
+ghost use Rattle.expand_operators.specs.Changes.{TellsFound, replaces_by};
+ghost use Rattle.expand_values.specs.Seen.{found_of};
+ghost use Rattle.expand_parts.specs.Acts.{Sees};
+ghost use Rattle.expand_parts.specs.Rest.{Sub, ended, show};
+ghost use Rattle.expand_parts.specs.declared.level.Use.TheVariants as use_of;
+ghost use Rattle.expand_ends.specs.Ends.{Ends};
+
+use eb_bytes::{Budget, Memory, Steps};
+use eb_syntax::{CaseOp, PW, ReplaceOp, StripOp};
+use expand_marks::Given;
+use expand_operators::{Written, change_case_found, compile, replace_found, strip_found};
+use expand_parts::{Act, Parts, Scene, Target, Use, open, shown_act};
+use expand_values::Found;
+use shared::Shared;
+use shell_marks::{Mark, Marked};
+use shell_state::Stop;
+use sqlite_items::Items as List;
+use std::alloc::Global;
+use std::sync::ledger::Ledger;
+use word_meaning::{Mode, Tildes};
+
+/// What was made of what a parameter is, as its text or its elements.
+///
+/// # Errors
+/// What stopped it; `Memory`.
+pub(crate) fn show_made(
+    scene: &Scene<'_>,
+    to: &Target,
+    made: Result<Found, Stop>,
+) -> Result<Act, Stop>
+    ensures { (sub : Sub) (o : Outcome refs.Found) (at : State) → Sees scene.now at → TellsFound made o at →
+        Ends result sub (and_then o (show to.now)) scene.now.room at }
+{
+    match made {
+        Ok(found) => shown_act(scene, to.mode, to.quoted, &found),
+        Err(stopped) => Err(stopped),
+    }
+}
+
+/// `#`, `##`, `%` and `%%`
+///
+/// # Errors
+/// Those of `strip_found`.
+pub(crate) fn strip_end<L: Ledger>(
+    scene: &Scene<'_>,
+    to: &Target,
+    op: StripOp,
+    pattern: &Marked,
+    found: &Found,
+    budget: &mut Budget,
+    steps: &mut Steps<L>,
+) -> Result<Act, Stop>
+    ensures means { (sub : Sub) (at : State) → Sees scene.now at → at.left ≡ left budget.old →
+        Ends result sub ((strips op pattern.now (found_of found.now) >>= show to.now) at) scene.now.room (record at { left = left budget.new }) }
+    ensures limit { budget.new.limit ≡ budget.old.limit }
+    ensures used { budget.old.used ≤ budget.new.used }
+    ensures ticks { steps.new + budget.old.used ≡ steps.old + budget.new.used }
+{
+    let written = Written {
+        marks: pattern,
+        extended: scene.opts.extglob,
+    };
+    let made = strip_found(scene.alloc, op, &written, found, budget, steps);
+    show_made(scene, to, made)
+}
+
+/// The pattern of a case operator: `?`, where none is written.
+///
+/// # Errors
+/// `Memory` where there is no room for it.
+pub(crate) fn case_pattern(alloc: Global, written: bool, given: Given) -> Result<Given, Memory>
+    ensures { IfOk result (λ g. g.marks ≡ (if written then (given_of given).marks else Literal 63 ∷ [])) }
+{
+    if written {
+        Ok(given)
+    } else {
+        Given::of_mark(alloc, Mark::Literal(b'?'))
+    }
+}
+
+/// `^`, `^^`, `,` and `,,`
+///
+/// # Errors
+/// Those of `change_case_found`.
+pub(crate) fn case_end<L: Ledger>(
+    scene: &Scene<'_>,
+    to: &Target,
+    op: CaseOp,
+    pattern: &Marked,
+    found: &Found,
+    budget: &mut Budget,
+    steps: &mut Steps<L>,
+) -> Result<Act, Stop>
+    ensures means { (sub : Sub) (at : State) → Sees scene.now at → at.left ≡ left budget.old →
+        Ends result sub ((changes_case op pattern.now (found_of found.now) >>= show to.now) at) scene.now.room (record at { left = left budget.new }) }
+    ensures limit { budget.new.limit ≡ budget.old.limit }
+    ensures used { budget.old.used ≤ budget.new.used }
+    ensures ticks { steps.new + budget.old.used ≡ steps.old + budget.new.used }
+{
+    let written = Written {
+        marks: pattern,
+        extended: scene.opts.extglob,
+    };
+    let made = change_case_found(scene.alloc, op, &written, found, budget, steps);
+    show_made(scene, to, made)
+}
+
+/// Which matches of a pattern are replaced.
+#[derive(Clone, Copy)]
+pub(crate) struct Replaced<'a> {
+    /// Which ones.
+    pub(crate) op: ReplaceOp,
+    /// The pattern.
+    pub(crate) pattern: Written<'a>,
+}
+
+/// `/`, `//`, `/#` and `/%`, once the replacement is there.
+///
+/// # Errors
+/// Those of `replace_found`.
+pub(crate) fn replacement_end<L: Ledger>(
+    scene: &Scene<'_>,
+    to: &Target,
+    replaced: &Replaced<'_>,
+    by: &[u8],
+    found: &Found,
+    budget: &mut Budget,
+    steps: &mut Steps<L>,
+) -> Result<Act, Stop>
+    ensures means { (sub : Sub) (at : State) → Sees scene.now at → at.left ≡ left budget.old →
+        Ends result sub ((replaces_by replaced.now.op replaced.now.pattern.marks.now replaced.now.pattern.extended by.now (found_of found.now) >>= show to.now) at)
+        scene.now.room (record at { left = left budget.new }) }
+    ensures limit { budget.new.limit ≡ budget.old.limit }
+    ensures used { budget.old.used ≤ budget.new.used }
+    ensures ticks { steps.new + budget.old.used ≡ steps.old + budget.new.used }
+{
+    let made = replace_found(
+        scene.alloc,
+        replaced.op,
+        &replaced.pattern,
+        by,
+        found,
+        budget,
+        steps,
+    );
+    show_made(scene, to, made)
+}
+
+/// `/`, `//`, `/#` and `/%`, where a replacement is written, which is opened behind the pattern.
+///
+/// # Errors
+/// `PatternDeep` where more than 64 groups are nested in the pattern; `DepthLimit` where no more parts may be open;
+/// `Memory`.
+pub(crate) fn replacement_open(
+    scene: &Scene<'_>,
+    to: Target,
+    op: ReplaceOp,
+    word: Shared<List<PW>>,
+    found: Found,
+    given: Given,
+) -> Result<Act, Stop>
+    ensures { (sub : Sub) (at : State) → Sees scene.now at →
+        Ends result sub (ended sub (inside sub scene.now.room) (use_of.Pattern to op (Some word) found) (given_of given) at) scene.now.room at }
+{
+    let extended = scene.opts.extglob;
+    match compile(scene.alloc, &given.marks, extended) {
+        Ok(_) => open(
+            scene,
+            Parts::Operand(word),
+            Mode::Text,
+            Tildes::AtStart,
+            Use::Replacement(to, op, given.marks, extended, found),
+        ),
+        Err(stopped) => Err(stopped),
+    }
+}
