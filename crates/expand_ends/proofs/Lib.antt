@@ -1,2 +1,9 @@
+mod Ended
+mod Evaluated
 mod Falls
+mod Given
+mod Indexed
+mod Replaced
+mod Shown
+mod Sliced
 mod Told

@@ -19,6 +19,7 @@ use std::alloc::Global;
 ///
 /// # Errors
 /// Those of `assign`; `Memory`. Nothing changed then.
+#[tactic(auto, using(crate::proofs::Given::assigned_so, crate::proofs::Given::assigned_not, crate::proofs::Falls::assign_falls))]
 pub(crate) fn assign_end(
     alloc: Global,
     quoted: bool,

@@ -32,6 +32,7 @@ fn referred(alloc: Global, param: &Param) -> Result<Bytes, Memory>
 }
 
 // A parameter, by the element that was looked for.
+#[tactic(auto, using(crate::proofs::Indexed::found_goes, crate::proofs::Indexed::found_not))]
 fn by_element(
     scene: &Scene<'_>,
     mode: Mode,
@@ -52,6 +53,7 @@ fn by_element(
 ///
 /// # Errors
 /// What stopped the number; the fault of the element, or of the parameter's operator; `Memory`.
+#[tactic(auto, using(crate::proofs::Indexed::index_not, crate::proofs::Indexed::index_no_room))]
 pub(crate) fn indexed(
     scene: &Scene<'_>,
     mode: Mode,
@@ -73,6 +75,7 @@ pub(crate) fn indexed(
 }
 
 // A parameter that points to an element, by the element that was looked for.
+#[tactic(auto, using(crate::proofs::Indexed::pointed_goes, crate::proofs::Indexed::pointed_not))]
 fn pointed_by_element(
     scene: &Scene<'_>,
     mode: Mode,
@@ -93,6 +96,7 @@ fn pointed_by_element(
 ///
 /// # Errors
 /// What stopped the number; the fault of the element, or of the parameter's operator; `Memory`.
+#[tactic(auto, using(crate::proofs::Indexed::point_not))]
 pub(crate) fn pointed(
     scene: &Scene<'_>,
     mode: Mode,

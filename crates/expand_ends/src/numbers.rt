@@ -1,6 +1,6 @@
 ghost use Rattle.std.specs.Prelude.{◌≡◌, ℕ, ℤ, ◌+◌, ◌≤◌};
 ghost use Rattle.bash_arith.specs.Numbers.{number_text};
-ghost use Rattle.shell_state.specs.Outcome.{Outcome, ◌<$>◌, and_then, pure};
+ghost use Rattle.shell_state.specs.Outcome.{Outcome, and_then, pure};
 ghost use Rattle.shell_state.specs.Spending.{left};
 ghost use Rattle.shell_state.specs.State.{State};
 ghost use Rattle.shell_vars.specs.Store.{kinds};
@@ -25,6 +25,7 @@ use std::sync::ledger::Ledger;
 ///
 /// # Errors
 /// Those of `one_text` and of `value_of`; `Memory`.
+#[tactic(auto, using(crate::proofs::Evaluated::valued, crate::proofs::Evaluated::not_valued, crate::proofs::Evaluated::no_room))]
 pub(crate) fn number_of<L: Ledger>(
     alloc: Global,
     given: &Given,
@@ -51,6 +52,7 @@ pub(crate) fn number_of<L: Ledger>(
 ///
 /// # Errors
 /// What stopped the number; `Memory`.
+#[tactic(auto, using(crate::proofs::Shown::number_so, crate::proofs::Shown::number_not, crate::proofs::Shown::number_no_room))]
 pub(crate) fn number_act(
     alloc: Global,
     quoted: bool,

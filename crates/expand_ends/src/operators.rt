@@ -32,6 +32,7 @@ use word_meaning::{Mode, Tildes};
 ///
 /// # Errors
 /// What stopped it; `Memory`.
+#[tactic(auto, using(crate::proofs::Shown::made_so, crate::proofs::Shown::made_not))]
 pub(crate) fn show_made(
     scene: &Scene<'_>,
     to: &Target,
@@ -160,6 +161,7 @@ pub(crate) fn replacement_end<L: Ledger>(
 /// # Errors
 /// `PatternDeep` where more than 64 groups are nested in the pattern; `DepthLimit` where no more parts may be open;
 /// `Memory`.
+#[tactic(auto, using(crate::proofs::Replaced::replacement_opens, crate::proofs::Replaced::too_deep))]
 pub(crate) fn replacement_open(
     scene: &Scene<'_>,
     to: Target,

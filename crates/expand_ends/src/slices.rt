@@ -34,6 +34,7 @@ fn sliced(
 }
 
 // The length of a slice is opened.
+#[tactic(auto, using(crate::proofs::Sliced::length_opens))]
 fn length_open(
     scene: &Scene<'_>,
     to: Target,
@@ -74,6 +75,7 @@ fn from_offset(
 ///
 /// # Errors
 /// What stopped the number; the fault of the slice; `DepthLimit` where no more parts may be open; `Memory`.
+#[tactic(auto, using(crate::proofs::Sliced::offset_goes, crate::proofs::Sliced::offset_not))]
 pub(crate) fn offset_act(
     scene: &Scene<'_>,
     to: Target,
@@ -94,6 +96,7 @@ pub(crate) fn offset_act(
 ///
 /// # Errors
 /// What stopped the number; the fault of the slice; `Memory`.
+#[tactic(auto, using(crate::proofs::Sliced::length_goes, crate::proofs::Sliced::length_not))]
 pub(crate) fn length_act(
     scene: &Scene<'_>,
     to: &Target,
