@@ -20,7 +20,7 @@ use Rattle.expand_parts.specs.Rest.{Sub, ended, param_found, pointed_found, refe
 use Rattle.expand_parts.specs.declared.level.Target.{Target}
 use Rattle.expand_parts.specs.declared.level.Use.{Use}
 use Rattle.expand_parts.specs.declared.level.Use.TheVariants as use_of
-use Rattle.expand_ends.proofs.Falls.{Falls, Falling, falling, assign_falls, bound, element_falls, formed_falls, image, indirect_falls, length_falls, number_falls, operated_falls, replacement_falls, shown_falls}
+use Rattle.expand_ends.proofs.Falls.{Falls, Falling, falling, assign_falls, bound, element_falls, formed_falls, image, indirect_falls, length_falls, number_falls, operated_falls, replacement_falls, shown_falls, slices_falls}
 
 -- ---- operators that are made, then shown
 
@@ -35,7 +35,7 @@ replaced_falls to op ms form by found =
     bound (replaces op ms form by found) (show to) (operators.replaces_part Falling falling op ms form by found) (shown_falls to.mode to.quoted)
 
 pub sliced_falls : (to : Target) (i : ℤ) (k : Option ℤ) (found : Found) → Falls (slices to.name i k found >>= show to)
-sliced_falls to i k found = bound (slices to.name i k found) (show to) (operators.slices_part Falling falling to.name i k found) (shown_falls to.mode to.quoted)
+sliced_falls to i k found = bound (slices to.name i k found) (show to) (slices_falls to.name i k found) (shown_falls to.mode to.quoted)
 
 -- ---- parameters, once their subscripts are numbers
 

@@ -90,6 +90,9 @@ number_falls g = bound (one_text (bytes_of g)) _ (one_text_falls (bytes_of g)) e
 pub shown_falls : (m : Mode) (quoted : Bool) (found : Found) → Falls (shown m quoted found)
 shown_falls m quoted found = operators.shown_part Falling falling m quoted found
 
+pub slices_falls : (name : Text) (i : ℤ) (k : Option ℤ) (found : Found) → Falls (slices name i k found)
+slices_falls name i k found = operators.slices_part Falling falling name i k found
+
 pub element_falls : (name : Text) (i : ℤ) → Falls (element_at name i)
 element_falls name i =
     bound (may_read name) (λ _ at. element_found name i (call.element name (Some i) at.store) at)
@@ -183,7 +186,7 @@ module _ (sub : Items → Doing Text) (last : SubstitutionsLast sub) (n : ℕ) w
   operator_falls m quoted name found (Op-F.Slice from len) =
       bound (slice_number sub (inside sub n) from) _ (slice_number_falls from)
       (λ i. bound (slice_length sub (inside sub n) len) _ (length_falls len)
-      (λ k. bound (slices name i k found) _ (operators.slices_part Falling falling name i k found) (shown_falls m quoted)))
+      (λ k. bound (slices name i k found) _ (slices_falls name i k found) (shown_falls m quoted)))
 
   pub operated_falls : (m : Mode) (quoted : Bool) (name : Text) (op : Option Op) (found : Found)
       → Falls (operated sub (inside sub n) m quoted name op found)

@@ -15,6 +15,7 @@ use Rattle.expand_values.specs.declared.found.Found.{Found as Kept}
 use Rattle.expand_parts.specs.Acts.{Acts}
 use Rattle.expand_parts.specs.Rest.{Sub, param_found, pointed_found, referred_name}
 use Rattle.expand_parts.specs.declared.level.Act.{Act}
+use Rattle.expand_ends.specs.Behind.{indexed, points}
 use Rattle.expand_ends.specs.Ends.{Ends, Says}
 use Rattle.expand_ends.proofs.Ended.{indexed_falls, param_falls, pointed_at_falls, pointed_falls}
 use Rattle.expand_ends.proofs.Told.{acts_so, found_stops, goes_on, no_room, stops}
@@ -54,33 +55,33 @@ module _ (result : Result Act Stop) (sub : Sub) (n : ℕ) (at : State) (m : Mode
   module _ (number : Result ℤ Stop) (o : Outcome ℤ) where
     pub index_goes : (i : ℤ) (name : Text) → number ≡ Ok i → Says {A = ℤ} number o at → name ≡ referred_name (out-Param p)
         → Ends result sub ((element_at name i >>= param_found sub (inside sub n) m quoted (out-Param p)) at) n at
-        → Ends result sub (and_then o (λ i. element_at (referred_name (out-Param p)) i >>= param_found sub (inside sub n) m quoted (out-Param p))) n at
+        → Ends result sub (and_then o (indexed sub (inside sub n) m quoted p)) n at
     index_goes i name is h same a =
-        goes_on result sub n at o i (λ i. element_at (referred_name (out-Param p)) i >>= param_found sub (inside sub n) m quoted (out-Param p))
+        goes_on result sub n at o i (indexed sub (inside sub n) m quoted p)
         (subst (λ x. Says {A = ℤ} x o at) is h)
         (subst (λ x. Ends result sub ((element_at x i >>= param_found sub (inside sub n) m quoted (out-Param p)) at) n at) same a)
 
     pub index_not : (why : Stop) → number ≡ Err why → Says {A = ℤ} number o at → result ≡ Err why
-        → Ends result sub (and_then o (λ i. element_at (referred_name (out-Param p)) i >>= param_found sub (inside sub n) m quoted (out-Param p))) n at
+        → Ends result sub (and_then o (indexed sub (inside sub n) m quoted p)) n at
     index_not why is h same =
-        subst (λ r. Ends r sub (and_then o (λ i. element_at (referred_name (out-Param p)) i >>= param_found sub (inside sub n) m quoted (out-Param p))) n at) (sym same)
+        subst (λ r. Ends r sub (and_then o (indexed sub (inside sub n) m quoted p)) n at) (sym same)
         (stops why sub n at o _ (λ last. indexed_falls sub n last m quoted p) (subst (λ x. Says {A = ℤ} x o at) is h))
 
     pub index_no_room : Says {A = ℤ} number o at → result ≡ Err stop.Memory
-        → Ends result sub (and_then o (λ i. element_at (referred_name (out-Param p)) i >>= param_found sub (inside sub n) m quoted (out-Param p))) n at
+        → Ends result sub (and_then o (indexed sub (inside sub n) m quoted p)) n at
     index_no_room h same =
-        subst (λ r. Ends r sub (and_then o (λ i. element_at (referred_name (out-Param p)) i >>= param_found sub (inside sub n) m quoted (out-Param p))) n at) (sym same)
+        subst (λ r. Ends r sub (and_then o (indexed sub (inside sub n) m quoted p)) n at) (sym same)
         (no_room number sub n at o _ (λ last. indexed_falls sub n last m quoted p) h)
 
     pub point_goes : (i : ℤ) (name : Text) → number ≡ Ok i → Says {A = ℤ} number o at
-        → Ends result sub ((element_at name i >>= pointed_found sub (inside sub n) m quoted (out-Param p)) at) n at
-        → Ends result sub (and_then o (λ i. element_at name i >>= pointed_found sub (inside sub n) m quoted (out-Param p))) n at
+        → Ends result sub (points sub (inside sub n) m quoted p name i at) n at
+        → Ends result sub (and_then o (points sub (inside sub n) m quoted p name)) n at
     point_goes i name is h a =
-        goes_on result sub n at o i (λ i. element_at name i >>= pointed_found sub (inside sub n) m quoted (out-Param p))
+        goes_on result sub n at o i (points sub (inside sub n) m quoted p name)
         (subst (λ x. Says {A = ℤ} x o at) is h) a
 
     pub point_not : (why : Stop) (name : Text) → number ≡ Err why → Says {A = ℤ} number o at → result ≡ Err why
-        → Ends result sub (and_then o (λ i. element_at name i >>= pointed_found sub (inside sub n) m quoted (out-Param p))) n at
+        → Ends result sub (and_then o (points sub (inside sub n) m quoted p name)) n at
     point_not why name is h same =
-        subst (λ r. Ends r sub (and_then o (λ i. element_at name i >>= pointed_found sub (inside sub n) m quoted (out-Param p))) n at) (sym same)
+        subst (λ r. Ends r sub (and_then o (points sub (inside sub n) m quoted p name)) n at) (sym same)
         (stops why sub n at o _ (λ last. pointed_at_falls sub n last m quoted p name) (subst (λ x. Says {A = ℤ} x o at) is h))

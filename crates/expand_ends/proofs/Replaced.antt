@@ -16,7 +16,6 @@ use Rattle.word_meaning.specs.Operators.{formed, replaces}
 use Rattle.word_meaning.specs.Words.{inside, opened, replacement}
 use Rattle.word_meaning.specs.declared.mode.Mode.TheVariants as mode
 use Rattle.word_meaning.specs.declared.mode.Tildes.TheVariants as tildes
-use Rattle.expand_operators.specs.Changes.{replaces_by}
 use Rattle.expand_values.specs.Seen.{found_of}
 use Rattle.expand_values.specs.declared.found.Found.{Found as Kept}
 use Rattle.expand_parts.specs.Acts.{Opens}
@@ -27,6 +26,7 @@ use Rattle.expand_parts.specs.declared.level.Target.{Target}
 use Rattle.expand_parts.specs.declared.level.Use.TheVariants as use_of
 use Rattle.expand_parts.proofs.Inside.{assoc}
 use Rattle.expand_parts.proofs.Opened.{begins_operand, opens}
+use Rattle.expand_ends.specs.Behind.{replaced}
 use Rattle.expand_ends.specs.Ends.{Ends}
 use Rattle.expand_ends.proofs.Ended.{ended_falls}
 use Rattle.expand_ends.proofs.Told.{acts_so, along}
@@ -34,7 +34,7 @@ use Rattle.expand_ends.proofs.Told.{acts_so, along}
 module _ (sub : Sub) (n : ℕ) (at : State) (to : Target) (op : ReplaceOp) (found : Kept) (g : Given) where
   -- where no replacement is written, it is empty
   pub without : (result : Result Act Stop) (after : State) (extended : Bool) → at.opts.extglob ≡ extended
-      → Ends result sub ((replaces_by op g.marks extended [] (found_of found) >>= show to) at) n after
+      → Ends result sub (replaced to op g.marks extended [] (found_of found) at) n after
       → Ends result sub (ended sub (inside sub n) (use_of.Pattern to op None found) g at) n after
   without result after extended e h =
       along result sub n after _ _
@@ -43,12 +43,12 @@ module _ (sub : Sub) (n : ℕ) (at : State) (to : Target) (op : ReplaceOp) (foun
 
   -- once it is there
   pub replaced_with : (result : Result Act Stop) (after : State) (ms : Marks) (extended : Bool) (by : Text) → by ≡ bytes_of g
-      → Ends result sub ((replaces_by op ms extended by (found_of found) >>= show to) at) n after
+      → Ends result sub (replaced to op ms extended by (found_of found) at) n after
       → Ends result sub (ended sub (inside sub n) (use_of.Replacement to op ms extended found) g at) n after
   replaced_with result after ms extended by e h =
       along result sub n after _ _
       (sym (assoc (formed (pattern_of extended ms) at) (λ form. replaces op ms form (bytes_of g) (found_of found)) (show to)))
-      (subst (λ t. Ends result sub ((replaces_by op ms extended t (found_of found) >>= show to) at) n after) e h)
+      (subst (λ t. Ends result sub (replaced to op ms extended t (found_of found) at) n after) e h)
 
   -- it is opened behind the pattern
   opened_behind : (ws : List PW) (extended : Bool) (pattern : Pattern) (o : Option Form) → Compiles (Ok pattern) o

@@ -19,6 +19,7 @@ use Rattle.expand_parts.specs.Rest.{Sub, show}
 use Rattle.expand_parts.specs.declared.level.Act.{Act}
 use Rattle.expand_parts.specs.declared.level.Act.TheVariants as act
 use Rattle.expand_parts.specs.declared.level.Target.{Target}
+use Rattle.expand_ends.specs.Behind.{as_text}
 use Rattle.expand_ends.specs.Ends.{Ends, Says}
 use Rattle.expand_ends.proofs.Falls.{shown_falls}
 use Rattle.expand_ends.proofs.Told.{acts_so, found_stops, goes_on, no_room, stops}
@@ -41,15 +42,15 @@ module _ (result : Result Act Stop) (sub : Sub) (n : ℕ) (at : State) (to : Tar
 
 module _ (sub : Sub) (n : ℕ) (at : State) (quoted : Bool) (number : Result ℤ Stop) (o : Outcome ℤ) where
   pub number_so : (i : ℤ) (t : Text) (g : Given) → number ≡ Ok i → Says {A = ℤ} number o at → t ≡ number_text i → given_of g ≡ given (emitted quoted t)
-      → Ends (Ok (act.Give g)) sub (and_then o (λ i. pure (given (emitted quoted (number_text i))))) n at
+      → Ends (Ok (act.Give g)) sub (and_then o (as_text quoted)) n at
   number_so i t g is h same e =
-      goes_on (Ok (act.Give g)) sub n at o i (λ i. pure (given (emitted quoted (number_text i)))) (subst (λ x. Says {A = ℤ} x o at) is h)
+      goes_on (Ok (act.Give g)) sub n at o i (as_text quoted) (subst (λ x. Says {A = ℤ} x o at) is h)
       (ap (λ u. Ended (given (emitted quoted u)) at) (sym same) ∙ ap (λ x. Ended x at) (sym e))
 
   pub number_not : (why : Stop) → number ≡ Err why → Says {A = ℤ} number o at
-      → Ends (Err why) sub (and_then o (λ i. pure (given (emitted quoted (number_text i))))) n at
+      → Ends (Err why) sub (and_then o (as_text quoted)) n at
   number_not why is h =
-      stops why sub n at o (λ i. pure (given (emitted quoted (number_text i)))) (λ last i at. omega arith) (subst (λ x. Says {A = ℤ} x o at) is h)
+      stops why sub n at o (as_text quoted) (λ last i at. omega arith) (subst (λ x. Says {A = ℤ} x o at) is h)
 
-  pub number_no_room : Says {A = ℤ} number o at → Ends (Err stop.Memory) sub (and_then o (λ i. pure (given (emitted quoted (number_text i))))) n at
-  number_no_room h = no_room number sub n at o (λ i. pure (given (emitted quoted (number_text i)))) (λ last i at. omega arith) h
+  pub number_no_room : Says {A = ℤ} number o at → Ends (Err stop.Memory) sub (and_then o (as_text quoted)) n at
+  number_no_room h = no_room number sub n at o (as_text quoted) (λ last i at. omega arith) h

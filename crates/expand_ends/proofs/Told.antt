@@ -92,3 +92,8 @@ no_room result sub n at o k f h = λ last. then_falls o k at.left (says_falls re
 -- what a part is looked at by stays where steps are spent
 pub sees_still : (scene : Scene) (at : State) (k : ℕ) → Sees scene at → Sees scene (record at { left = k })
 sees_still scene at k s = record { store = s.store; args = s.args; opts = s.opts; status = s.status }
+
+-- what a part ends by, and the variables, are what one is looked at by
+pub sees_so : (scene : Scene) (at : State) → at.store ≡ scene.vars.now.present → at.args ≡ scene.args.now → at.opts ≡ scene.opts → at.status ≡ scene.status
+    → Sees scene at
+sees_so scene at e f g h = record { store = e; args = f; opts = g; status = h }

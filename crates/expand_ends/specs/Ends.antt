@@ -1,5 +1,5 @@
 -- What is made of a part of a word that ends.
-use Rattle.std.specs.Prelude.{◌≡◌, ℕ, ◌≤◌, Result, Ok, Err}
+use Rattle.std.specs.Prelude.{◌≡◌, ℕ, ◌≤◌, List, Result, Ok, Err}
 use Rattle.eb_bytes.specs.Text.{Text}
 use Rattle.shell_state.specs.Outcome.{Outcome, Ended, Faulted, left_of}
 use Rattle.shell_state.specs.State.{State}
@@ -13,8 +13,8 @@ use Rattle.expand_parts.specs.declared.level.Act.{Act}
 use Rattle.expand_ends.specs.declared.setting.Setting.{Setting}
 
 -- a state has what a part ends by, beside the variables and the steps
-pub record Stands (s : Setting) (at : State) : Type 0 where
-  pub args : at.args ≡ s.args.now
+pub record Stands (s : Setting) (args : List Text) (at : State) : Type 0 where
+  pub params : at.args ≡ args
   pub opts : at.opts ≡ s.opts
   pub status : at.status ≡ s.status
 

@@ -1,13 +1,13 @@
 ghost use Rattle.std.specs.Prelude.{◌≡◌, ℤ, IfOk};
 ghost use Rattle.eb_syntax.specs.declared.tree.Param.{out-Param};
-ghost use Rattle.shell_state.specs.Outcome.{Outcome, ◌>>=◌, and_then};
+ghost use Rattle.shell_state.specs.Outcome.{Outcome, and_then};
 ghost use Rattle.shell_state.specs.State.{State};
 ghost use Rattle.word_meaning.specs.References as refs;
 ghost use Rattle.word_meaning.specs.Words.{inside};
 ghost use Rattle.expand_operators.specs.Changes.{TellsFound};
-ghost use Rattle.expand_values.specs.Seen.{element_at};
 ghost use Rattle.expand_parts.specs.Acts.{Sees};
 ghost use Rattle.expand_parts.specs.Rest.{Sub, param_found, pointed_found, referred_name};
+ghost use Rattle.expand_ends.specs.Behind.{indexed as indexed_in, points as points_in};
 ghost use Rattle.expand_ends.specs.Ends.{Ends, Says};
 
 use eb_bytes::{Bytes, Memory};
@@ -62,7 +62,7 @@ pub(crate) fn indexed(
     number: Result<i64, Stop>,
 ) -> Result<Act, Stop>
     ensures { (sub : Sub) (o : Outcome ℤ) (at : State) → Sees scene.now at → Says number o at →
-        Ends result sub (and_then o (λ n. element_at (referred_name (out-Param param.now)) n >>= param_found sub (inside sub scene.now.room) mode quoted (out-Param param.now))) scene.now.room at }
+        Ends result sub (and_then o (indexed_in sub (inside sub scene.now.room) mode quoted param.now)) scene.now.room at }
 {
     match number {
         Ok(index) => {
@@ -106,7 +106,7 @@ pub(crate) fn pointed(
     number: Result<i64, Stop>,
 ) -> Result<Act, Stop>
     ensures { (sub : Sub) (o : Outcome ℤ) (at : State) → Sees scene.now at → Says number o at →
-        Ends result sub (and_then o (λ n. element_at name.now n >>= pointed_found sub (inside sub scene.now.room) mode quoted (out-Param param.now))) scene.now.room at }
+        Ends result sub (and_then o (points_in sub (inside sub scene.now.room) mode quoted param.now name.now)) scene.now.room at }
 {
     match number {
         Ok(index) => {

@@ -16,16 +16,31 @@ use crate::numbers::{number_act, number_of};
 use crate::operators::{
     Replaced, case_end, case_pattern, replacement_end, replacement_open, strip_end,
 };
-use crate::setting::{Setting, scene_with};
+use crate::setting::Setting;
 use crate::slices::{length_act, offset_act};
 use eb_bytes::{Budget, Bytes, Steps};
 use expand_marks::Given;
 use expand_operators::Written;
-use expand_parts::{Act, Use};
+use expand_parts::{Act, Scene, Use};
 use shell_state::{Fault, Stop};
 use shell_vars::Vars;
 use std::alloc::Global;
 use std::sync::ledger::Ledger;
+
+// What a part of a word is looked at by, with these positional parameters and variables. A call would have the references
+// of both stand at one lifetime.
+macro_rules! scene {
+    ($setting:expr, $args:expr, $vars:expr) => {
+        Scene {
+            alloc: $setting.alloc,
+            vars: &*$vars,
+            args: $args,
+            opts: $setting.opts,
+            status: $setting.status,
+            room: $setting.room,
+        }
+    };
+}
 
 // The fault of a parameter that is not set, with its message.
 fn unset(alloc: Global, name: Bytes, message: &Given) -> Stop
@@ -45,14 +60,15 @@ fn unset(alloc: Global, name: Bytes, message: &Given) -> Stop
 /// `DepthLimit` where one more part would be open than may be; `Memory`.
 #[tactic(auto, using(crate::proofs::Given::gives_so, crate::proofs::Given::unset_so, crate::proofs::Told::same_state, crate::proofs::Told::same_store, crate::proofs::Told::same_steps))]
 pub fn end<L: Ledger>(
-    setting: &Setting<'_>,
+    setting: &Setting,
+    args: &[Bytes],
     used: Use,
     given: Given,
     vars: &mut Vars,
     budget: &mut Budget,
     steps: &mut Steps<L>,
 ) -> Result<Act, Stop>
-    ensures means { (sub : Sub) (at : State) → Stands setting.now at → at.store ≡ vars.old.present → at.left ≡ left budget.old →
+    ensures means { (sub : Sub) (at : State) → Stands setting.now args.now at → at.store ≡ vars.old.present → at.left ≡ left budget.old →
         Ends result sub (ended sub (inside sub setting.now.room) used (given_of given) at) setting.now.room (record at { store = vars.new.present; left = left budget.new }) }
     ensures saved { vars.new.saved ≡ vars.old.saved }
     ensures kinds { kinds vars.new.present ≡ kinds vars.old.present }
@@ -76,35 +92,39 @@ pub fn end<L: Ledger>(
         }
         Use::Index(mode, quoted, param) => {
             let number = number_of(alloc, &given, vars, budget, steps);
-            indexed(&scene_with(setting, vars), mode, quoted, &param, number)
+            let scene = scene!(setting, args, vars);
+            indexed(&scene, mode, quoted, &param, number)
         }
         Use::Pointed(mode, quoted, param, name) => {
             let number = number_of(alloc, &given, vars, budget, steps);
-            let scene = scene_with(setting, vars);
+            let scene = scene!(setting, args, vars);
             pointed(&scene, mode, quoted, &param, name.as_slice(), number)
         }
         Use::Offset(to, length, found) => {
             let number = number_of(alloc, &given, vars, budget, steps);
-            offset_act(&scene_with(setting, vars), to, length, found, number)
+            let scene = scene!(setting, args, vars);
+            offset_act(&scene, to, length, found, number)
         }
         Use::Length(to, offset, found) => {
             let number = number_of(alloc, &given, vars, budget, steps);
-            length_act(&scene_with(setting, vars), &to, offset, &found, number)
+            let scene = scene!(setting, args, vars);
+            length_act(&scene, &to, offset, &found, number)
         }
         Use::Strip(to, op, found) => {
-            let scene = scene_with(setting, vars);
+            let scene = scene!(setting, args, vars);
             strip_end(&scene, &to, op, &given.marks, &found, budget, steps)
         }
         Use::Case(to, op, written, found) => {
-            let scene = scene_with(setting, vars);
+            let scene = scene!(setting, args, vars);
             let pattern = case_pattern(alloc, written, given)?;
             case_end(&scene, &to, op, &pattern.marks, &found, budget, steps)
         }
         Use::Pattern(to, op, Some(word), found) => {
-            replacement_open(&scene_with(setting, vars), to, op, word, found, given)
+            let scene = scene!(setting, args, vars);
+            replacement_open(&scene, to, op, word, found, given)
         }
         Use::Pattern(to, op, None, found) => {
-            let scene = scene_with(setting, vars);
+            let scene = scene!(setting, args, vars);
             let pattern = Written {
                 marks: &given.marks,
                 extended: setting.opts.extglob,
@@ -113,7 +133,7 @@ pub fn end<L: Ledger>(
             replacement_end(&scene, &to, &replaced, b"", &found, budget, steps)
         }
         Use::Replacement(to, op, marks, extended, found) => {
-            let scene = scene_with(setting, vars);
+            let scene = scene!(setting, args, vars);
             let by = given.bytes(alloc)?;
             let pattern = Written {
                 marks: &marks,

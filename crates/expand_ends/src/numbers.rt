@@ -1,13 +1,12 @@
 ghost use Rattle.std.specs.Prelude.{◌≡◌, ℕ, ℤ, ◌+◌, ◌≤◌};
-ghost use Rattle.bash_arith.specs.Numbers.{number_text};
-ghost use Rattle.shell_state.specs.Outcome.{Outcome, and_then, pure};
+ghost use Rattle.shell_state.specs.Outcome.{Outcome, and_then};
 ghost use Rattle.shell_state.specs.Spending.{left};
 ghost use Rattle.shell_state.specs.State.{State};
 ghost use Rattle.shell_vars.specs.Store.{kinds};
-ghost use Rattle.word_meaning.specs.Marks.{emitted, given as marks_given};
 ghost use Rattle.word_meaning.specs.Words.{number_of as number_in};
 ghost use Rattle.expand_marks.specs.Seen.{given_of};
 ghost use Rattle.expand_parts.specs.Rest.{Sub};
+ghost use Rattle.expand_ends.specs.Behind.{as_text};
 ghost use Rattle.expand_ends.specs.Ends.{Ends, Says};
 
 use bash_cond::value_of;
@@ -59,7 +58,7 @@ pub(crate) fn number_act(
     number: Result<i64, Stop>,
 ) -> Result<Act, Stop>
     ensures { (sub : Sub) (room : ℕ) (o : Outcome ℤ) (at : State) → Says number o at →
-        Ends result sub (and_then o (λ n. pure (marks_given (emitted quoted (number_text n))))) room at }
+        Ends result sub (and_then o (as_text quoted)) room at }
 {
     match number {
         Ok(number) => {

@@ -1,17 +1,17 @@
-ghost use Rattle.std.specs.Prelude.{◌≡◌, ◌+◌, ◌≤◌, None, Some, [], ◌∷◌, IfOk, if◌then◌else◌};
+ghost use Rattle.std.specs.Prelude.{◌≡◌, ◌+◌, ◌≤◌, Some, [], ◌∷◌, IfOk, if◌then◌else◌};
 ghost use Rattle.shell_marks.specs.declared.marked.Mark.TheVariants.{Literal};
-ghost use Rattle.shell_state.specs.Outcome.{Outcome, ◌>>=◌, and_then};
+ghost use Rattle.shell_state.specs.Outcome.{Outcome, and_then};
 ghost use Rattle.shell_state.specs.Spending.{left};
 ghost use Rattle.shell_state.specs.State.{State};
-ghost use Rattle.word_meaning.specs.Operators.{changes_case, strips};
 ghost use Rattle.word_meaning.specs.References as refs;
 ghost use Rattle.word_meaning.specs.Words.{inside};
 ghost use Rattle.expand_marks.specs.Seen.{given_of};
-ghost use Rattle.expand_operators.specs.Changes.{TellsFound, replaces_by};
+ghost use Rattle.expand_operators.specs.Changes.{TellsFound};
 ghost use Rattle.expand_values.specs.Seen.{found_of};
 ghost use Rattle.expand_parts.specs.Acts.{Sees};
 ghost use Rattle.expand_parts.specs.Rest.{Sub, ended, show};
 ghost use Rattle.expand_parts.specs.declared.level.Use.TheVariants as use_of;
+ghost use Rattle.expand_ends.specs.Behind.{cased, replaced as replaced_in, stripped};
 ghost use Rattle.expand_ends.specs.Ends.{Ends};
 
 use eb_bytes::{Budget, Memory, Steps};
@@ -61,7 +61,7 @@ pub(crate) fn strip_end<L: Ledger>(
     steps: &mut Steps<L>,
 ) -> Result<Act, Stop>
     ensures means { (sub : Sub) (at : State) → Sees scene.now at → at.left ≡ left budget.old →
-        Ends result sub ((strips op pattern.now (found_of found.now) >>= show to.now) at) scene.now.room (record at { left = left budget.new }) }
+        Ends result sub (stripped to.now op pattern.now (found_of found.now) at) scene.now.room (record at { left = left budget.new }) }
     ensures limit { budget.new.limit ≡ budget.old.limit }
     ensures used { budget.old.used ≤ budget.new.used }
     ensures ticks { steps.new + budget.old.used ≡ steps.old + budget.new.used }
@@ -102,7 +102,7 @@ pub(crate) fn case_end<L: Ledger>(
     steps: &mut Steps<L>,
 ) -> Result<Act, Stop>
     ensures means { (sub : Sub) (at : State) → Sees scene.now at → at.left ≡ left budget.old →
-        Ends result sub ((changes_case op pattern.now (found_of found.now) >>= show to.now) at) scene.now.room (record at { left = left budget.new }) }
+        Ends result sub (cased to.now op pattern.now (found_of found.now) at) scene.now.room (record at { left = left budget.new }) }
     ensures limit { budget.new.limit ≡ budget.old.limit }
     ensures used { budget.old.used ≤ budget.new.used }
     ensures ticks { steps.new + budget.old.used ≡ steps.old + budget.new.used }
@@ -138,7 +138,7 @@ pub(crate) fn replacement_end<L: Ledger>(
     steps: &mut Steps<L>,
 ) -> Result<Act, Stop>
     ensures means { (sub : Sub) (at : State) → Sees scene.now at → at.left ≡ left budget.old →
-        Ends result sub ((replaces_by replaced.now.op replaced.now.pattern.marks.now replaced.now.pattern.extended by.now (found_of found.now) >>= show to.now) at)
+        Ends result sub (replaced_in to.now replaced.now.op replaced.now.pattern.marks.now replaced.now.pattern.extended by.now (found_of found.now) at)
         scene.now.room (record at { left = left budget.new }) }
     ensures limit { budget.new.limit ≡ budget.old.limit }
     ensures used { budget.old.used ≤ budget.new.used }

@@ -1,11 +1,11 @@
 ghost use Rattle.std.specs.Prelude.{◌≡◌, ℤ, Some};
-ghost use Rattle.shell_state.specs.Outcome.{Outcome, ◌>>=◌, and_then};
+ghost use Rattle.shell_state.specs.Outcome.{Outcome, and_then};
 ghost use Rattle.shell_state.specs.State.{State};
-ghost use Rattle.word_meaning.specs.Operators.{slices};
-ghost use Rattle.word_meaning.specs.Words.{inside, slice_length};
+ghost use Rattle.word_meaning.specs.Words.{inside};
 ghost use Rattle.expand_values.specs.Seen.{found_of};
 ghost use Rattle.expand_parts.specs.Acts.{Sees};
-ghost use Rattle.expand_parts.specs.Rest.{Sub, show};
+ghost use Rattle.expand_parts.specs.Rest.{Sub};
+ghost use Rattle.expand_ends.specs.Behind.{from_offset as from_offset_in, of_length, sliced as sliced_in};
 ghost use Rattle.expand_ends.specs.Ends.{Ends, Says};
 
 use crate::operators::show_made;
@@ -27,7 +27,7 @@ fn sliced(
     found: &Found,
 ) -> Result<Act, Stop>
     ensures { (sub : Sub) (at : State) → Sees scene.now at →
-        Ends result sub ((slices to.now.name offset length (found_of found.now) >>= show to.now) at) scene.now.room at }
+        Ends result sub (sliced_in to.now offset length (found_of found.now) at) scene.now.room at }
 {
     let made = slice(scene.alloc, to.name.as_slice(), offset, length, found);
     show_made(scene, to, made)
@@ -43,7 +43,7 @@ fn length_open(
     found: Found,
 ) -> Result<Act, Stop>
     ensures { (sub : Sub) (at : State) →
-        Ends result sub ((slice_length sub (inside sub scene.now.room) (Some parts) >>= (λ k. slices to.name offset k (found_of found) >>= show to)) at) scene.now.room at }
+        Ends result sub (from_offset_in sub (inside sub scene.now.room) to (Some parts) (found_of found) offset at) scene.now.room at }
 {
     open(
         scene,
@@ -63,7 +63,7 @@ fn from_offset(
     found: Found,
 ) -> Result<Act, Stop>
     ensures { (sub : Sub) (at : State) → Sees scene.now at →
-        Ends result sub ((slice_length sub (inside sub scene.now.room) length >>= (λ k. slices to.name offset k (found_of found) >>= show to)) at) scene.now.room at }
+        Ends result sub (from_offset_in sub (inside sub scene.now.room) to length (found_of found) offset at) scene.now.room at }
 {
     match length {
         Some(parts) => length_open(scene, to, offset, parts, found),
@@ -84,7 +84,7 @@ pub(crate) fn offset_act(
     number: Result<i64, Stop>,
 ) -> Result<Act, Stop>
     ensures { (sub : Sub) (o : Outcome ℤ) (at : State) → Sees scene.now at → Says number o at →
-        Ends result sub (and_then o (λ n. slice_length sub (inside sub scene.now.room) length >>= (λ k. slices to.name n k (found_of found) >>= show to))) scene.now.room at }
+        Ends result sub (and_then o (from_offset_in sub (inside sub scene.now.room) to length (found_of found))) scene.now.room at }
 {
     match number {
         Ok(offset) => from_offset(scene, to, offset, length, found),
@@ -105,7 +105,7 @@ pub(crate) fn length_act(
     number: Result<i64, Stop>,
 ) -> Result<Act, Stop>
     ensures { (sub : Sub) (o : Outcome ℤ) (at : State) → Sees scene.now at → Says number o at →
-        Ends result sub (and_then o (λ n. slices to.now.name offset (Some n) (found_of found.now) >>= show to.now)) scene.now.room at }
+        Ends result sub (and_then o (of_length to.now offset (found_of found.now))) scene.now.room at }
 {
     match number {
         Ok(length) => sliced(scene, to, offset, Some(length), found),
