@@ -35,5 +35,5 @@ not_valued why g t at s k same isnt h =
     by stop.Memory isnt le = then_falls (one_text t at) evaluates k le never_rises
 
 -- there is no room for the text
-pub no_room : (g : Given) (at : State) (k : ℕ) → at.left ≡ k → left_of (number_of g at) ≤ k
-no_room g at k e = let less : left_of (number_of g at) ≤ at.left = number_falls g at in omega (arith, less, e)
+pub no_room : (g : Given) (at : State) (s : Store) (k : ℕ) → at.left ≡ k → Says {A = ℤ} (Err stop.Memory) (number_of g at) (record at { store = s; left = k })
+no_room g at s k e = let less : left_of (number_of g at) ≤ at.left = number_falls g at in omega (arith, less, e)

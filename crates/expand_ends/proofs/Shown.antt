@@ -26,17 +26,15 @@ use Rattle.expand_ends.proofs.Told.{acts_so, found_stops, goes_on, no_room, stop
 
 -- ---- what operators make
 
-module _ (result : Result Act Stop) (sub : Sub) (n : ℕ) (at : State) (to : Target) (made : Result Kept Stop) (o : Outcome Found) where
-  pub made_so : (found : Kept) → made ≡ Ok found → TellsFound made o at → Acts result sub (shown to.mode to.quoted (found_of found) at) n at
+module _ (sub : Sub) (n : ℕ) (at : State) (to : Target) (made : Result Kept Stop) (o : Outcome Found) where
+  pub made_so : (result : Result Act Stop) (found : Kept) → made ≡ Ok found → TellsFound made o at → Acts result sub (shown to.mode to.quoted (found_of found) at) n at
       → Ends result sub (and_then o (show to)) n at
-  made_so found is h a =
+  made_so result found is h a =
       goes_on result sub n at o (found_of found) (show to) (subst (λ x. TellsFound x o at) is h)
       (acts_so result sub _ n at (λ last. shown_falls to.mode to.quoted (found_of found) at) a)
 
-  pub made_not : (why : Stop) → made ≡ Err why → TellsFound made o at → result ≡ Err why → Ends result sub (and_then o (show to)) n at
-  made_not why is h same =
-      subst (λ r. Ends r sub (and_then o (show to)) n at) (sym same)
-      (found_stops why sub n at o (show to) (λ last. shown_falls to.mode to.quoted) (subst (λ x. TellsFound x o at) is h))
+  pub made_not : (why : Stop) → made ≡ Err why → TellsFound made o at → Ends (Err why) sub (and_then o (show to)) n at
+  made_not why is h = found_stops why sub n at o (show to) (λ last. shown_falls to.mode to.quoted) (subst (λ x. TellsFound x o at) is h)
 
 -- ---- numbers
 

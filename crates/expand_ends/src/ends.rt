@@ -58,7 +58,7 @@ fn unset(alloc: Global, name: Bytes, message: &Given) -> Stop
 /// `UnsetParameter` with the message of `?`; the faults of an arithmetic text, of an element, of an assignment, of a
 /// pattern, of a replacement and of a slice, and of the operator of a parameter with a subscript; `StepsSpent`;
 /// `DepthLimit` where one more part would be open than may be; `Memory`.
-#[tactic(auto, using(crate::proofs::Given::gives_so, crate::proofs::Given::unset_so, crate::proofs::Told::same_state, crate::proofs::Told::same_store, crate::proofs::Told::same_steps))]
+#[tactic(auto, using(crate::proofs::Given::gives_so, crate::proofs::Given::unset_so, crate::proofs::Told::same_state, crate::proofs::Told::same_store, crate::proofs::Told::same_steps, crate::proofs::Told::sees_so, crate::proofs::Replaced::without, crate::proofs::Replaced::replaced_with))]
 pub fn end<L: Ledger>(
     setting: &Setting,
     args: &[Bytes],
