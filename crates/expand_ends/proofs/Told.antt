@@ -8,12 +8,14 @@ use Rattle.shell_vars.specs.Store.{Store}
 use Rattle.word_meaning.specs.Laws.{SubstitutionsLast}
 use Rattle.word_meaning.specs.Marks.{Given}
 use Rattle.word_meaning.specs.References.{Found}
+use Rattle.word_meaning.specs.Words.{inside}
 use Rattle.expand_operators.specs.Changes.{TellsFound}
 use Rattle.expand_values.specs.Seen.{Finds, found_of}
 use Rattle.expand_values.specs.declared.found.Found.{Found as Kept}
 use Rattle.expand_parts.specs.Acts.{Acts, Sees}
-use Rattle.expand_parts.specs.Rest.{Sub}
+use Rattle.expand_parts.specs.Rest.{Sub, ended}
 use Rattle.expand_parts.specs.declared.level.Act.{Act}
+use Rattle.expand_parts.specs.declared.level.Use.{Use}
 use Rattle.expand_parts.specs.declared.scene.Scene.{Scene}
 use Rattle.expand_ends.specs.Ends.{Ends, Says}
 use Rattle.expand_ends.proofs.Falls.{Falls, then_falls}
@@ -97,3 +99,8 @@ sees_still scene at k s = record { store = s.store; args = s.args; opts = s.opts
 pub sees_so : (scene : Scene) (at : State) → at.store ≡ scene.vars.now.present → at.args ≡ scene.args.now → at.opts ≡ scene.opts → at.status ≡ scene.status
     → Sees scene at
 sees_so scene at e f g h = record { store = e; args = f; opts = g; status = h }
+
+-- what ends is of this use
+pub used_as : (result : Result Act Stop) (sub : Sub) (n : ℕ) (at after : State) (g : Given) (used as_this : Use) → used ≡ as_this
+    → Ends result sub (ended sub (inside sub n) as_this g at) n after → Ends result sub (ended sub (inside sub n) used g at) n after
+used_as result sub n at after g used as_this e h = subst (λ u. Ends result sub (ended sub (inside sub n) u g at) n after) (sym e) h

@@ -15,6 +15,7 @@ use crate::marks::enclosed;
 use crate::numbers::{number_act, number_of};
 use crate::operators::{
     Replaced, case_end, case_pattern, replacement_end, replacement_open, strip_end,
+    without_replacement,
 };
 use crate::setting::Setting;
 use crate::slices::{length_act, offset_act};
@@ -58,7 +59,7 @@ fn unset(alloc: Global, name: Bytes, message: &Given) -> Stop
 /// `UnsetParameter` with the message of `?`; the faults of an arithmetic text, of an element, of an assignment, of a
 /// pattern, of a replacement and of a slice, and of the operator of a parameter with a subscript; `StepsSpent`;
 /// `DepthLimit` where one more part would be open than may be; `Memory`.
-#[tactic(auto, using(crate::proofs::Given::gives_so, crate::proofs::Given::unset_so, crate::proofs::Told::same_state, crate::proofs::Told::same_store, crate::proofs::Told::same_steps, crate::proofs::Told::sees_so, crate::proofs::Replaced::without, crate::proofs::Replaced::replaced_with))]
+#[tactic(auto, using(crate::proofs::Given::gives_so))]
 pub fn end<L: Ledger>(
     setting: &Setting,
     args: &[Bytes],
@@ -119,18 +120,12 @@ pub fn end<L: Ledger>(
             let pattern = case_pattern(alloc, written, given)?;
             case_end(&scene, &to, op, &pattern.marks, &found, budget, steps)
         }
-        Use::Pattern(to, op, Some(word), found) => {
+        Use::Pattern(to, op, other, found) => {
             let scene = scene!(setting, args, vars);
-            replacement_open(&scene, to, op, word, found, given)
-        }
-        Use::Pattern(to, op, None, found) => {
-            let scene = scene!(setting, args, vars);
-            let pattern = Written {
-                marks: &given.marks,
-                extended: setting.opts.extglob,
-            };
-            let replaced = Replaced { op, pattern };
-            replacement_end(&scene, &to, &replaced, b"", &found, budget, steps)
+            match other {
+                Some(word) => replacement_open(&scene, to, op, word, found, given),
+                None => without_replacement(&scene, &to, op, &given, &found, budget, steps),
+            }
         }
         Use::Replacement(to, op, marks, extended, found) => {
             let scene = scene!(setting, args, vars);

@@ -1,4 +1,4 @@
-ghost use Rattle.std.specs.Prelude.{◌≡◌, ◌+◌, ◌≤◌, Some, [], ◌∷◌, IfOk, if◌then◌else◌};
+ghost use Rattle.std.specs.Prelude.{◌≡◌, ◌+◌, ◌≤◌, None, Some, [], ◌∷◌, IfOk, if◌then◌else◌};
 ghost use Rattle.shell_marks.specs.declared.marked.Mark.TheVariants.{Literal};
 ghost use Rattle.shell_state.specs.Outcome.{Outcome, and_then};
 ghost use Rattle.shell_state.specs.Spending.{left};
@@ -154,6 +154,33 @@ pub(crate) fn replacement_end<L: Ledger>(
         steps,
     );
     show_made(scene, to, made)
+}
+
+/// `/`, `//`, `/#` and `/%`, where no replacement is written.
+///
+/// # Errors
+/// Those of `replace_found`.
+pub(crate) fn without_replacement<L: Ledger>(
+    scene: &Scene<'_>,
+    to: &Target,
+    op: ReplaceOp,
+    given: &Given,
+    found: &Found,
+    budget: &mut Budget,
+    steps: &mut Steps<L>,
+) -> Result<Act, Stop>
+    ensures means { (sub : Sub) (at : State) → Sees scene.now at → at.left ≡ left budget.old →
+        Ends result sub (ended sub (inside sub scene.now.room) (use_of.Pattern to.now op None found.now) (given_of given.now) at) scene.now.room (record at { left = left budget.new }) }
+    ensures limit { budget.new.limit ≡ budget.old.limit }
+    ensures used { budget.old.used ≤ budget.new.used }
+    ensures ticks { steps.new + budget.old.used ≡ steps.old + budget.new.used }
+{
+    let pattern = Written {
+        marks: &given.marks,
+        extended: scene.opts.extglob,
+    };
+    let replaced = Replaced { op, pattern };
+    replacement_end(scene, to, &replaced, b"", found, budget, steps)
 }
 
 /// `/`, `//`, `/#` and `/%`, where a replacement is written, which is opened behind the pattern.
