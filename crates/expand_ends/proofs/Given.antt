@@ -13,9 +13,11 @@ use Rattle.word_meaning.specs.References.{Place}
 use Rattle.word_meaning.specs.Words.{assigned_value, inside}
 use Rattle.expand_marks.specs.Seen.{given_of}
 use Rattle.expand_marks.specs.declared.given.Given.{Given as Kept}
-use Rattle.expand_parts.specs.Rest.{Sub}
+use Rattle.expand_parts.specs.Rest.{Sub, ended}
 use Rattle.expand_parts.specs.declared.level.Act.TheVariants as act
+use Rattle.expand_parts.specs.declared.level.Use.{Use}
 use Rattle.expand_ends.specs.Ends.{Ends, IsUnset}
+use Rattle.expand_ends.proofs.Ended.{ended_falls}
 use Rattle.expand_ends.proofs.Falls.{assign_falls, then_falls}
 
 -- it gives marks, and changes nothing
@@ -31,6 +33,12 @@ unset_so (stop.Fault why) sub n at s k name message e h =
     ap (λ f. Faulted f at.left at.host.asked) (sym h) ∙ ap (λ j. Faulted why j at.host.asked) e
 unset_so stop.Failed sub n at s k name message e h = absurd h
 unset_so stop.Memory sub n at s k name message e h = λ last. omega (arith, e)
+
+-- there is no room for it
+pub memory_so : (sub : Sub) (n : ℕ) (at : State) (s : Store) (k : ℕ) (used : Use) (g : Given) → at.left ≡ k
+    → Ends (Err stop.Memory) sub (ended sub (inside sub n) used g at) n (record at { store = s; left = k })
+memory_so sub n at s k used g e =
+    λ last. let less : left_of (ended sub (inside sub n) used g at) ≤ at.left = ended_falls sub n last used g at in omega (arith, less, e)
 
 -- ---- `=`
 

@@ -14,7 +14,7 @@ use crate::elements::{indexed, pointed};
 use crate::marks::enclosed;
 use crate::numbers::{number_act, number_of};
 use crate::operators::{
-    Replaced, case_end, case_pattern, replacement_end, replacement_open, strip_end,
+    Replaced, case_end, case_pattern, replacement_given, replacement_open, strip_end,
     without_replacement,
 };
 use crate::setting::Setting;
@@ -59,7 +59,7 @@ fn unset(alloc: Global, name: Bytes, message: &Given) -> Stop
 /// `UnsetParameter` with the message of `?`; the faults of an arithmetic text, of an element, of an assignment, of a
 /// pattern, of a replacement and of a slice, and of the operator of a parameter with a subscript; `StepsSpent`;
 /// `DepthLimit` where one more part would be open than may be; `Memory`.
-#[tactic(auto, using(crate::proofs::Given::gives_so))]
+#[tactic(auto, using(crate::proofs::Given::gives_so, crate::proofs::Given::memory_so))]
 pub fn end<L: Ledger>(
     setting: &Setting,
     args: &[Bytes],
@@ -129,13 +129,12 @@ pub fn end<L: Ledger>(
         }
         Use::Replacement(to, op, marks, extended, found) => {
             let scene = scene!(setting, args, vars);
-            let by = given.bytes(alloc)?;
             let pattern = Written {
                 marks: &marks,
                 extended,
             };
             let replaced = Replaced { op, pattern };
-            replacement_end(&scene, &to, &replaced, by.as_slice(), &found, budget, steps)
+            replacement_given(&scene, &to, &replaced, &given, &found, budget, steps)
         }
     }
 }

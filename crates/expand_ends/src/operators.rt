@@ -156,6 +156,32 @@ pub(crate) fn replacement_end<L: Ledger>(
     show_made(scene, to, made)
 }
 
+/// `/`, `//`, `/#` and `/%`, where this is the replacement.
+///
+/// # Errors
+/// Those of `replace_found`.
+pub(crate) fn replacement_given<L: Ledger>(
+    scene: &Scene<'_>,
+    to: &Target,
+    replaced: &Replaced<'_>,
+    given: &Given,
+    found: &Found,
+    budget: &mut Budget,
+    steps: &mut Steps<L>,
+) -> Result<Act, Stop>
+    ensures means { (sub : Sub) (at : State) → Sees scene.now at → at.left ≡ left budget.old →
+        Ends result sub (ended sub (inside sub scene.now.room) (use_of.Replacement to.now replaced.now.op replaced.now.pattern.marks.now replaced.now.pattern.extended found.now) (given_of given.now) at)
+        scene.now.room (record at { left = left budget.new }) }
+    ensures limit { budget.new.limit ≡ budget.old.limit }
+    ensures used { budget.old.used ≤ budget.new.used }
+    ensures ticks { steps.new + budget.old.used ≡ steps.old + budget.new.used }
+{
+    match given.bytes(scene.alloc) {
+        Ok(by) => replacement_end(scene, to, replaced, by.as_slice(), found, budget, steps),
+        Err(_) => Err(Stop::Memory),
+    }
+}
+
 /// `/`, `//`, `/#` and `/%`, where no replacement is written.
 ///
 /// # Errors

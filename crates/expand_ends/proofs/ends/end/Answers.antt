@@ -1,4 +1,4 @@
-use Rattle.std.proofs.Common.{refl, sym, subst, rules, FitsSigned, w64}
+use Rattle.std.proofs.Common.{Err, refl, subst, rules, FitsSigned, w64}
 use Rattle.std.proofs.lemmas.Int.{to_z-of_z}
 use Rattle.shell_state.specs.Outcome.{and_then}
 use Rattle.shell_state.specs.Spending.{left}
@@ -15,7 +15,8 @@ use Rattle.expand_ends.proofs.ends.end.Goals as goal
 
 pub returns-in-Fail-clause-means : goal.returns-in-Fail-clause-means
 returns-in-Fail-clause-means g c sub at st e f =
-    used_as _ sub c.args.setting.now.room at _ (given_of c.args.given) c.args.used _ c.in-Fail.is
+    used_as (Err c.unset.result) sub c.args.setting.now.room at (record at { store = c.args.vars.now.present; left = left c.args.budget.now }) (given_of c.args.given)
+    c.args.used _ c.in-Fail.is
     (unset_so c.unset.result sub c.args.setting.now.room at c.args.vars.now.present (left c.args.budget.now) c.in-Fail.name (bytes_of (given_of c.args.given)) f
     c.unset.ensures)
 
@@ -57,3 +58,17 @@ returns-in-Strip-clause-means g c sub at st e f =
     used_as c.strip_end.result sub c.args.setting.now.room at _ (given_of c.args.given) c.args.used _ c.in-Strip.is
     (same_store c.strip_end.result sub c.args.setting.now.room at c.args.vars.now.present (left c.strip_end.new.budget) _ e
     (c.strip_end.ensures.means sub at (sees_so _ at e st.params st.opts st.status) f))
+
+pub returns-in_ok-pattern-in-Case-clause-means : goal.returns-in_ok-pattern-in-Case-clause-means
+returns-in_ok-pattern-in-Case-clause-means g c sub at st e f =
+    used_as c.case_end.result sub c.args.setting.now.room at _ (given_of c.args.given) c.args.used _ c.in-Case.is
+    (same_store c.case_end.result sub c.args.setting.now.room at c.args.vars.now.present (left c.case_end.new.budget) _ e
+    (subst (λ ms. Ends c.case_end.result sub (cased c.in-Case.to c.in-Case.op ms (found_of c.in-Case.found) at) c.args.setting.now.room
+    (record at { left = left c.case_end.new.budget })) c.in_ok-pattern-in-Case.ensures
+    (c.case_end.ensures.means sub at (sees_so _ at e st.params st.opts st.status) f)))
+
+pub returns-in-Replacement-clause-means : goal.returns-in-Replacement-clause-means
+returns-in-Replacement-clause-means g c sub at st e f =
+    used_as c.replacement_given.result sub c.args.setting.now.room at _ (given_of c.args.given) c.args.used _ c.in-Replacement.is
+    (same_store c.replacement_given.result sub c.args.setting.now.room at c.args.vars.now.present (left c.replacement_given.new.budget) _ e
+    (c.replacement_given.ensures.means sub at (sees_so _ at e st.params st.opts st.status) f))
