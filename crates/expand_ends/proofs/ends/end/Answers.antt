@@ -1,15 +1,17 @@
-use Rattle.std.proofs.Common.{Err, refl, subst, rules, FitsSigned, w64}
+use Rattle.std.proofs.Common.{◌≡◌, Err, refl, sym, subst, rules, FitsSigned, w64}
 use Rattle.std.proofs.lemmas.Int.{to_z-of_z}
 use Rattle.shell_state.specs.Outcome.{and_then}
 use Rattle.shell_state.specs.Spending.{left}
 use Rattle.shell_state.specs.State.{State}
+use Rattle.shell_state.specs.declared.stop.Stop.TheVariants as stop
 use Rattle.word_meaning.specs.Marks.{bytes_of}
-use Rattle.word_meaning.specs.Words.{number_of}
+use Rattle.word_meaning.specs.Words.{inside, number_of}
 use Rattle.expand_marks.specs.Seen.{given_of}
 use Rattle.expand_values.specs.Seen.{found_of}
+use Rattle.expand_parts.specs.Rest.{ended}
 use Rattle.expand_ends.specs.Behind.{cased, of_length}
 use Rattle.expand_ends.specs.Ends.{Ends}
-use Rattle.expand_ends.proofs.Given.{unset_so}
+use Rattle.expand_ends.proofs.Given.{memory_so, unset_so}
 use Rattle.expand_ends.proofs.Told.{same_steps, same_store, sees_so, used_as}
 use Rattle.expand_ends.proofs.ends.end.Goals as goal
 
@@ -66,6 +68,13 @@ returns-in_ok-pattern-in-Case-clause-means g c sub at st e f =
     (subst (λ ms. Ends c.case_end.result sub (cased c.in-Case.to c.in-Case.op ms (found_of c.in-Case.found) at) c.args.setting.now.room
     (record at { left = left c.case_end.new.budget })) c.in_ok-pattern-in-Case.ensures
     (c.case_end.ensures.means sub at (sees_so _ at e st.params st.opts st.status) f)))
+
+pub returns-in_err-pattern-in-Case-clause-means : goal.returns-in_err-pattern-in-Case-clause-means
+returns-in_err-pattern-in-Case-clause-means g c sub at st e f =
+    let is : c.from_residual-in_err-pattern-in-Case.result ≡ Err stop.Memory = search rules in
+    subst (λ r. Ends r sub (ended sub (inside sub c.args.setting.now.room) c.args.used (given_of c.args.given) at) c.args.setting.now.room
+    (record at { store = c.args.vars.now.present; left = left c.args.budget.now })) (sym is)
+    (memory_so sub c.args.setting.now.room at c.args.vars.now.present (left c.args.budget.now) c.args.used (given_of c.args.given) f)
 
 pub returns-in-Replacement-clause-means : goal.returns-in-Replacement-clause-means
 returns-in-Replacement-clause-means g c sub at st e f =
